@@ -1,0 +1,23 @@
+-- The cases hold: computed from the rules.
+use mathlib.Core.Path.{_≡_, refl}
+use mathlib.Core.Bool.{true}
+use Rattle.program.specs.Command.{rows, rowAt, opcode, operandsOf, commandOf, rowOf, width, names, named, times, held, isEnd, usesCell}
+use Rattle.program.specs.Reading.{read, readingsAfter, readings, wholes, commandsOf}
+use Rattle.program.specs.Bodies.{firstBody, afterEnd, locate, bodiesOf, programOf, from, isPlace}
+use Rattle.program.specs.Scan.{nameFits, atomFits, placing, leftAfter, bodyAfter, verdict, fitsLength, fitsBodies, scan}
+use Rattle.program.specs.Count.{sumOver, tallyTo, tally, workOf, activitiesOf, clocksOf, accumulatorsOf}
+use Rattle.program.specs.Table.{overCount, numberOf}
+use Rattle.rules.specs.Search.{someBelow, allBelow, countBelow, bitsBelow, listFrom, chain}
+use Rattle.rules.specs.Clocks.{holdsSome, isBehind, behind, quiescent}
+use Rattle.rules.specs.Tree.{rest, here, nextOffset, finishes, inOwnFinish, inFinishBody, descends, inside}
+use Rattle.rules.specs.Faults.{lendsUnheld, lendsQuiesced, asyncFault, readFault, faultFor}
+use Rattle.rules.specs.Waiting.{behindOf, unendedBelow, unendedInside, waitsFor, waitsAt}
+use Rattle.rules.specs.Effects.{past, pushed, again, popped, endOf, nextOf, repeatOf, lent, child, cellAfter, touch, touchAll, effectOf, withStores, applied}
+use Rattle.rules.specs.WellFormed.{isNoActivity, runBy, isPlaced, isBottom, isStacked, frameFits, stackFits, bodyFits, barrierFits, holdFits, namesFit, spawnerFits, activityFits, countsFit, activitiesFit, accumulatorsFit, wellFormed}
+use Rattle.rules.specs.Steps.{at, fault, waits, effect, refusal, exceeds, advance, unfit, startWith, start, stepWith, step, canStep, ready, registrationOn, sheetOf, registrationsNumber, registrations}
+use Rattle.rules.specs.Runs.{runFrom, answersFrom, run, answers, taken, someFault, finished}
+use Rattle.rules.specs.Cases.{sameList, accepts, holdsFor, allHold, marked}
+
+marked-hold : allHold marked ≡ true
+unfolding rows rowAt opcode operandsOf commandOf rowOf width names named times held isEnd usesCell read readingsAfter readings wholes commandsOf firstBody afterEnd locate bodiesOf programOf from isPlace nameFits atomFits placing leftAfter bodyAfter verdict fitsLength fitsBodies scan sumOver tallyTo tally workOf activitiesOf clocksOf accumulatorsOf overCount numberOf someBelow allBelow countBelow bitsBelow listFrom chain holdsSome isBehind behind quiescent rest here nextOffset finishes inOwnFinish inFinishBody descends inside lendsUnheld lendsQuiesced asyncFault readFault faultFor behindOf unendedBelow unendedInside waitsFor waitsAt past pushed again popped endOf nextOf repeatOf lent child cellAfter touch touchAll effectOf withStores applied isNoActivity runBy isPlaced isBottom isStacked frameFits stackFits bodyFits barrierFits holdFits namesFit spawnerFits activityFits countsFit activitiesFit accumulatorsFit wellFormed at fault waits effect refusal exceeds advance unfit startWith start stepWith step canStep ready registrationOn sheetOf registrationsNumber registrations runFrom answersFrom run answers taken someFault finished sameList accepts holdsFor allHold marked
+marked-hold = refl

@@ -1,0 +1,12 @@
+pub mod Search
+pub mod State
+pub mod Clocks
+pub mod Tree
+pub mod Faults
+pub mod Waiting
+pub mod Effects
+pub mod WellFormed
+pub mod Steps
+pub mod Runs
+pub mod Demand3
+pub mod Cases
