@@ -1,0 +1,179 @@
+-- The shape of each command's effect: seventeen commands, six kinds. The proofs go by the kind, so that only this file has an arm for each command.
+use Prim.Native.Nat.{ℕ, zero, suc, _+_}
+use native.Mathlib.Omega.{arith}
+use mathlib.Core.List.{List, [], _∷_}
+use mathlib.Core.Bool.{Bool, true, false, cond}
+use mathlib.Core.Path.{_≡_, refl, _∙_}
+use lib.ListN.{length, getD, set, length-set}
+use lib.Dec.{eqb}
+use Rattle.program.specs.declared.command.Command.{Command}
+use Rattle.program.specs.declared.command.Command.the-variants.{End, Next, Clock, Resume, Drop, Async, Finish, Repeat, Acc, Offer, Read, Reset, Put, Fetch, Store, Add, Atom}
+use Rattle.rules.specs.declared.state.Registration.the-variants.{Live}
+use Rattle.rules.specs.declared.state.Hold.{Hold}
+use Rattle.rules.specs.declared.state.Activity.{Activity}
+use Rattle.program.specs.Command.{opcode, names, isEnd, times, operandsOf, rowOf, rowAt, rows}
+use Rattle.program.specs.Bodies.{Program}
+use Rattle.program.specs.Count.{ownActivities, ownClocks, ownAccumulators, ownWork}
+use Rattle.rules.specs.State.{noHold, isAtBarrier}
+use Rattle.rules.specs.Clocks.{quiesce, holds}
+use Rattle.rules.specs.Faults.{Env, faultFor}
+use Rattle.rules.specs.Effects.{Effect, endOf, nobody, nextOf, past, one, child, pushed, withHolds, withRegister, withNames, effectOf, repeatOf, spawnedCount, clockedCount, writtenCount, Spawned, Write, keep, make, offer, reset, Stored, withStores}
+
+unfoldable pub isNext : Command → Bool
+isNext c = eqb (opcode c) 0x01
+
+-- KINDS
+
+-- One hold gets another value: DROP, RESUME, CLOCK.
+pub data Replaced (made : ℕ) (h h′ : Hold) : Type 0 where
+  dropped : h′ ≡ noHold → Replaced made h h′
+  resumed : h′ ≡ quiesce h → Replaced made h h′
+  created : h′ ≡ record { phase = 0; clock = made; registration = Live } → Replaced made h h′
+
+-- Holds before and after, where at most one gets another value.
+pub data Reheld (made : ℕ) (l l′ : List Hold) : Type 0 where
+  kept : l′ ≡ l → Reheld made l l′
+  replaced : (n : ℕ) (h : Hold) → Replaced made (getD l n noHold) h → l′ ≡ set l n h → Reheld made l l′
+
+-- An activity that differs from another in its register, its names and its holds only.
+pub record Alike (made : ℕ) (a b : Activity) : Type 0 where
+  pub frames : b .frames ≡ a .frames
+  pub depth : b .depth ≡ a .depth
+  pub status : b .status ≡ a .status
+  pub spawner : b .spawner ≡ a .spawner
+  pub names : length (b .accumulators) ≡ length (a .accumulators)
+  pub holds : Reheld made (a .holds) (b .holds)
+
+-- What the effect x of command c of activity i, which is a, does.
+pub data Kind (p : Program) (e : Env) (i : ℕ) (a : Activity) (c : Command) (x : Effect) : Type 0 where
+  -- END
+  ends : c ≡ End → x .self ≡ endOf p a → x .spawned ≡ nobody → Kind p e i a c x
+  -- NEXT
+  meets : c ≡ Next → x .self ≡ nextOf p a (isAtBarrier (a .status)) → x .spawned ≡ nobody → Kind p e i a c x
+  -- ASYNC
+  forks : (b m : ℕ) → c ≡ Async b m → x .self ≡ past p a → x .spawned ≡ one (child i a b m) → Kind p e i a c x
+  -- FINISH
+  opens : (b : ℕ) → c ≡ Finish b → x .self ≡ pushed a b 0 (e .first) → x .spawned ≡ nobody → Kind p e i a c x
+  -- REPEAT of at least one run
+  loops : (n b : ℕ) → c ≡ Repeat (suc n) b → x .self ≡ pushed a b (suc n) 0 → x .spawned ≡ nobody → Kind p e i a c x
+  -- All others: the activity goes on after its command.
+  moves : (b : Activity) → isEnd c ≡ false → isNext c ≡ false → times c ≡ 0 → Alike (e .clock) a b → x .self ≡ past p b → x .spawned ≡ nobody → Kind p e i a c x
+
+-- The activity itself, its holds, its register and its names changed.
+alike-holds : {made : ℕ} {a : Activity} {l : List Hold} → Reheld made (a .holds) l → Alike made a (withHolds a (a .status) l)
+alike-holds r = record { frames = refl; depth = refl; status = refl; spawner = refl; names = refl; holds = r }
+
+alike-register : {made : ℕ} {a : Activity} (v : ℕ) → Alike made a (withRegister a v)
+alike-register v = record { frames = refl; depth = refl; status = refl; spawner = refl; names = refl; holds = kept refl }
+
+alike-names : {made : ℕ} {a : Activity} (n v : ℕ) → Alike made a (withNames a (set (a .accumulators) n v))
+alike-names n v = record { frames = refl; depth = refl; status = refl; spawner = refl; names = simp length-set; holds = kept refl }
+
+alike-self : {made : ℕ} {a : Activity} → Alike made a a
+alike-self = record { frames = refl; depth = refl; status = refl; spawner = refl; names = refl; holds = kept refl }
+
+-- Each command's kind.
+pub kind : (p : Program) (e : Env) (i : ℕ) (a : Activity) (c : Command) (inner : List Command) → Kind p e i a c (effectOf p e i a c inner)
+unfolding effectOf repeatOf isEnd isNext opcode times names operandsOf rowOf rowAt rows
+kind p e i a End inner = ends refl refl refl
+kind p e i a Next inner = meets refl refl refl
+kind p e i a (Clock c) inner = moves _ refl refl refl (alike-holds (replaced c _ (created refl) refl)) refl refl
+kind p e i a (Resume c) inner = moves _ refl refl refl (alike-holds (replaced c _ (resumed refl) refl)) refl refl
+kind p e i a (Drop c) inner = moves _ refl refl refl (alike-holds (replaced c _ (dropped refl) refl)) refl refl
+kind p e i a (Async b m) inner = forks b m refl refl refl
+kind p e i a (Finish b) inner = opens b refl refl refl
+kind p e i a (Repeat zero b) inner = moves a refl refl refl alike-self refl refl
+kind p e i a (Repeat (suc n) b) inner = loops n b refl refl refl
+kind p e i a (Acc n o) inner = moves _ refl refl refl (alike-names n (e .accumulator + 1)) refl refl
+kind p e i a (Offer n) inner = moves a refl refl refl alike-self refl refl
+kind p e i a (Read n) inner = moves _ refl refl refl (alike-register _) refl refl
+kind p e i a (Reset n) inner = moves a refl refl refl alike-self refl refl
+kind p e i a (Put v) inner = moves _ refl refl refl (alike-register v) refl refl
+kind p e i a (Fetch d) inner = moves _ refl refl refl (alike-register _) refl refl
+kind p e i a (Store d) inner = moves _ refl refl refl (alike-register _) refl refl
+kind p e i a (Add d) inner = moves _ refl refl refl (alike-register _) refl refl
+kind p e i a (Atom k) inner = moves _ refl refl refl (alike-register _) refl refl
+
+-- COUNTS
+
+-- What an effect makes is what its command's row counts, and each command counts 1 for a step, NEXT for two.
+unfoldable pub Counts : Command → Effect → Type 0
+Counts c x =
+    (spawnedCount 0 (x .spawned) ≡ ownActivities c)
+    × (clockedCount 0 (x .clocked) ≡ ownClocks c)
+    × (writtenCount 0 (x .write) ≡ ownAccumulators c)
+    × (ownWork c ≡ 1 + cond (isNext c) 1 0)
+
+pub counts : (p : Program) (e : Env) (i : ℕ) (a : Activity) (c : Command) (inner : List Command) → Counts c (effectOf p e i a c inner)
+unfolding Counts effectOf isNext opcode rowOf rowAt rows
+counts p e i a End inner = (refl, refl, refl, refl)
+counts p e i a Next inner = (refl, refl, refl, refl)
+counts p e i a (Clock c) inner = (refl, refl, refl, refl)
+counts p e i a (Resume c) inner = (refl, refl, refl, refl)
+counts p e i a (Drop c) inner = (refl, refl, refl, refl)
+counts p e i a (Async b m) inner = (refl, refl, refl, refl)
+counts p e i a (Finish b) inner = (refl, refl, refl, refl)
+counts p e i a (Repeat n b) inner = (refl, refl, refl, refl)
+counts p e i a (Acc n o) inner = (refl, refl, refl, refl)
+counts p e i a (Offer n) inner = (refl, refl, refl, refl)
+counts p e i a (Read n) inner = (refl, refl, refl, refl)
+counts p e i a (Reset n) inner = (refl, refl, refl, refl)
+counts p e i a (Put v) inner = (refl, refl, refl, refl)
+counts p e i a (Fetch d) inner = (refl, refl, refl, refl)
+counts p e i a (Store d) inner = (refl, refl, refl, refl)
+counts p e i a (Add d) inner = (refl, refl, refl, refl)
+counts p e i a (Atom k) inner = (refl, refl, refl, refl)
+
+-- A count after a step is the count before it and what the step makes.
+pub spawned-count : (n : ℕ) (ch : Spawned) → spawnedCount n ch ≡ n + spawnedCount 0 ch
+spawned-count n nobody = omega arith
+spawned-count n (one c) = omega arith
+
+pub clocked-count : (n : ℕ) (b : Bool) → clockedCount n b ≡ n + clockedCount 0 b
+clocked-count n true = omega arith
+clocked-count n false = omega arith
+
+pub written-count : (n : ℕ) (w : Write) → writtenCount n w ≡ n + writtenCount 0 w
+written-count n keep = omega arith
+written-count n (make c) = omega arith
+written-count n (offer x v) = omega arith
+written-count n (reset x v) = omega arith
+
+-- Stores keep the number of cells.
+pub length-stores : (cells : List ℕ) (l : List Stored) → length (withStores cells l) ≡ length cells
+unfolding withStores
+length-stores cells [] = refl
+length-stores cells (x ∷ xs) = length-set (withStores cells xs) (x .cell) (x .value) ∙ length-stores cells xs
+
+-- WHAT FOLLOWS FROM THE KIND
+
+-- A fact of the activity that a step forks, where it forks one.
+unfoldable pub OfChild : (Activity → Type 0) → Spawned → Type 0
+OfChild P nobody = Unit {0}
+OfChild P (one c) = P c
+
+pub of-child : (P Q : Activity → Type 0) → ((c : Activity) → P c → Q c) → (ch : Spawned) → OfChild P ch → OfChild Q ch
+unfolding OfChild
+of-child P Q f nobody p = tt
+of-child P Q f (one c) p = f c p
+
+module _ {p : Program} {e : Env} {i : ℕ} {a : Activity} {c : Command} {x : Effect} where
+  -- Only ASYNC forks.
+  pub born : (P : Activity → Type 0) → ((b m : ℕ) → c ≡ Async b m → P (child i a b m)) → Kind p e i a c x → OfChild P (x .spawned)
+  unfolding OfChild
+  born P f (ends q s n) = rw n tt
+  born P f (meets q s n) = rw n tt
+  born P f (forks b m q s n) = rw n (f b m q)
+  born P f (opens b q s n) = rw n tt
+  born P f (loops k b q s n) = rw n tt
+  born P f (moves b g h t k s n) = rw n tt
+
+  -- Who meets a fault stands neither on END nor on NEXT.
+  pub faulty : (faultFor p e i a c ≡ 0 → ⊥) → Kind p e i a c x → (isEnd c ≡ false) × (isNext c ≡ false)
+  unfolding faultFor isEnd isNext opcode
+  faulty f (ends q s n) = absurd (f (rw q))
+  faulty f (meets q s n) = absurd (f (rw q))
+  faulty f (forks b m q s n) = (rw q, rw q)
+  faulty f (opens b q s n) = (rw q, rw q)
+  faulty f (loops k b q s n) = (rw q, rw q)
+  faulty f (moves b g h t k s n) = (g, h)
