@@ -184,10 +184,10 @@ module _ (p : Program) where
   size-next a true z = record { frames16 = simp length-set (z .frames16); holds8 = length-map (a .holds) pass ∙ z .holds8; names8 = z .names8 }
   size-next a false z = record { frames16 = z .frames16; holds8 = length-map (a .holds) quiesce ∙ z .holds8; names8 = z .names8 }
 
-  size-alike : {made : ℕ} {a b : Activity} → Alike made a b → SizedActivity a → SizedActivity b
-  size-alike {made} {a} {b} k z = record { frames16 = rw (k .frames) (z .frames16); holds8 = go (k .holds); names8 = k .names ∙ z .names8 }
+  size-alike : {made : ℕ} {clocked : Bool} {a b : Activity} → Alike made clocked a b → SizedActivity a → SizedActivity b
+  size-alike {made} {clocked} {a} {b} k z = record { frames16 = rw (k .frames) (z .frames16); holds8 = go (k .holds); names8 = k .names ∙ z .names8 }
     where
-      go : Reheld made (a .holds) (b .holds) → length (b .holds) ≡ 8
+      go : Reheld made clocked (a .holds) (b .holds) → length (b .holds) ≡ 8
       go (kept q) = rw q (z .holds8)
       go (replaced n h r q) = rw q (simp length-set (z .holds8))
 

@@ -5,4 +5,8 @@ pub mod Lists
 pub mod Sized
 pub mod Shapes
 pub mod Applied
+pub mod Holders
+pub mod Stable
+pub mod Standstill
+pub mod VirtualTime
 mod Cases

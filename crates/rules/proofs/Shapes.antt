@@ -24,25 +24,25 @@ isNext c = eqb (opcode c) 0x01
 
 -- KINDS
 
--- One hold gets another value: DROP, RESUME, CLOCK.
-pub data Replaced (made : ℕ) (h h′ : Hold) : Type 0 where
-  dropped : h′ ≡ noHold → Replaced made h h′
-  resumed : h′ ≡ quiesce h → Replaced made h h′
-  created : h′ ≡ record { phase = 0; clock = made; registration = Live } → Replaced made h h′
+-- One hold gets another value: DROP, RESUME, CLOCK. Only a step that makes a clock (`clocked`) registers its activity on the new one.
+pub data Replaced (made : ℕ) (clocked : Bool) (h h′ : Hold) : Type 0 where
+  dropped : h′ ≡ noHold → Replaced made clocked h h′
+  resumed : h′ ≡ quiesce h → Replaced made clocked h h′
+  created : clocked ≡ true → h′ ≡ record { phase = 0; clock = made; registration = Live } → Replaced made clocked h h′
 
 -- Holds before and after, where at most one gets another value.
-pub data Reheld (made : ℕ) (l l′ : List Hold) : Type 0 where
-  kept : l′ ≡ l → Reheld made l l′
-  replaced : (n : ℕ) (h : Hold) → Replaced made (getD l n noHold) h → l′ ≡ set l n h → Reheld made l l′
+pub data Reheld (made : ℕ) (clocked : Bool) (l l′ : List Hold) : Type 0 where
+  kept : l′ ≡ l → Reheld made clocked l l′
+  replaced : (n : ℕ) (h : Hold) → Replaced made clocked (getD l n noHold) h → l′ ≡ set l n h → Reheld made clocked l l′
 
 -- An activity that differs from another in its register, its names and its holds only.
-pub record Alike (made : ℕ) (a b : Activity) : Type 0 where
+pub record Alike (made : ℕ) (clocked : Bool) (a b : Activity) : Type 0 where
   pub frames : b .frames ≡ a .frames
   pub depth : b .depth ≡ a .depth
   pub status : b .status ≡ a .status
   pub spawner : b .spawner ≡ a .spawner
   pub names : length (b .accumulators) ≡ length (a .accumulators)
-  pub holds : Reheld made (a .holds) (b .holds)
+  pub holds : Reheld made clocked (a .holds) (b .holds)
 
 -- What the effect x of command c of activity i, which is a, does.
 pub data Kind (p : Program) (e : Env) (i : ℕ) (a : Activity) (c : Command) (x : Effect) : Type 0 where
@@ -57,19 +57,19 @@ pub data Kind (p : Program) (e : Env) (i : ℕ) (a : Activity) (c : Command) (x 
   -- REPEAT of at least one run
   loops : (n b : ℕ) → c ≡ Repeat (suc n) b → x .self ≡ pushed a b (suc n) 0 → x .spawned ≡ nobody → Kind p e i a c x
   -- All others: the activity goes on after its command.
-  moves : (b : Activity) → isEnd c ≡ false → isNext c ≡ false → times c ≡ 0 → Alike (e .clock) a b → x .self ≡ past p b → x .spawned ≡ nobody → Kind p e i a c x
+  moves : (b : Activity) → isEnd c ≡ false → isNext c ≡ false → times c ≡ 0 → Alike (e .clock) (x .clocked) a b → x .self ≡ past p b → x .spawned ≡ nobody → Kind p e i a c x
 
 -- The activity itself, its holds, its register and its names changed.
-alike-holds : {made : ℕ} {a : Activity} {l : List Hold} → Reheld made (a .holds) l → Alike made a (withHolds a (a .status) l)
+alike-holds : {made : ℕ} {clocked : Bool} {a : Activity} {l : List Hold} → Reheld made clocked (a .holds) l → Alike made clocked a (withHolds a (a .status) l)
 alike-holds r = record { frames = refl; depth = refl; status = refl; spawner = refl; names = refl; holds = r }
 
-alike-register : {made : ℕ} {a : Activity} (v : ℕ) → Alike made a (withRegister a v)
+alike-register : {made : ℕ} {clocked : Bool} {a : Activity} (v : ℕ) → Alike made clocked a (withRegister a v)
 alike-register v = record { frames = refl; depth = refl; status = refl; spawner = refl; names = refl; holds = kept refl }
 
-alike-names : {made : ℕ} {a : Activity} (n v : ℕ) → Alike made a (withNames a (set (a .accumulators) n v))
+alike-names : {made : ℕ} {clocked : Bool} {a : Activity} (n v : ℕ) → Alike made clocked a (withNames a (set (a .accumulators) n v))
 alike-names n v = record { frames = refl; depth = refl; status = refl; spawner = refl; names = simp length-set; holds = kept refl }
 
-alike-self : {made : ℕ} {a : Activity} → Alike made a a
+alike-self : {made : ℕ} {clocked : Bool} {a : Activity} → Alike made clocked a a
 alike-self = record { frames = refl; depth = refl; status = refl; spawner = refl; names = refl; holds = kept refl }
 
 -- Each command's kind.
@@ -77,7 +77,7 @@ pub kind : (p : Program) (e : Env) (i : ℕ) (a : Activity) (c : Command) (inner
 unfolding effectOf repeatOf isEnd isNext opcode times names operandsOf rowOf rowAt rows
 kind p e i a End inner = ends refl refl refl
 kind p e i a Next inner = meets refl refl refl
-kind p e i a (Clock c) inner = moves _ refl refl refl (alike-holds (replaced c _ (created refl) refl)) refl refl
+kind p e i a (Clock c) inner = moves _ refl refl refl (alike-holds (replaced c _ (created refl refl) refl)) refl refl
 kind p e i a (Resume c) inner = moves _ refl refl refl (alike-holds (replaced c _ (resumed refl) refl)) refl refl
 kind p e i a (Drop c) inner = moves _ refl refl refl (alike-holds (replaced c _ (dropped refl) refl)) refl refl
 kind p e i a (Async b m) inner = forks b m refl refl refl
