@@ -9,4 +9,6 @@ pub mod Holders
 pub mod Stable
 pub mod Standstill
 pub mod VirtualTime
+pub mod Tree
+pub mod Containment
 mod Cases
