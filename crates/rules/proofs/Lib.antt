@@ -11,4 +11,5 @@ pub mod Standstill
 pub mod VirtualTime
 pub mod Tree
 pub mod Containment
+pub mod Waiting
 mod Cases
