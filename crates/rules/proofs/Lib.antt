@@ -12,4 +12,5 @@ pub mod VirtualTime
 pub mod Tree
 pub mod Containment
 pub mod Waiting
+pub mod Bodies
 mod Cases
