@@ -13,4 +13,6 @@ pub mod Tree
 pub mod Containment
 pub mod Waiting
 pub mod Bodies
+pub mod Stack
+pub mod Potential
 mod Cases
