@@ -15,4 +15,5 @@ pub mod Waiting
 pub mod Bodies
 pub mod Stack
 pub mod Potential
+pub mod Spending
 mod Cases
