@@ -1,6 +1,6 @@
 -- Applying an effect: the activity itself and the one it forks are new, all others stay. A fact of each activity after a step comes from three: of the
 -- activity, of its child, and of those that were there.
-use Prim.Native.Nat.{ℕ, suc, _≤_, _<_}
+use Prim.Native.Nat.{ℕ, suc, _+_, _≤_, _<_}
 use native.Mathlib.Omega.{arith}
 use native.Mathlib.Decide.{ℕ-discrete}
 use mathlib.Core.List.{List, [], _∷_}
@@ -19,10 +19,10 @@ use Rattle.program.specs.Bodies.{Program}
 use Rattle.rules.specs.State.{act, absent, top, isAtBarrier}
 use Rattle.rules.specs.Clocks.{pass, quiesce}
 use Rattle.rules.specs.Faults.{Env}
-use Rattle.rules.specs.Effects.{Spawned, nobody, one, spawnedCount, withSpawned, Effect, applied, child, Write, withWritten, keep, make, offer, reset, past, pushed, stopped, endOf, again, popped, nextOf, lent}
+use Rattle.rules.specs.Effects.{Spawned, nobody, one, spawnedCount, withSpawned, Effect, applied, clockedCount, writtenCount, child, Write, withWritten, keep, make, offer, reset, past, pushed, stopped, endOf, again, popped, nextOf, lent}
 use Rattle.rules.proofs.Lists.{old, new, stored, Stored}
 use Rattle.rules.proofs.Sized.{Sized, SizedActivity}
-use Rattle.rules.proofs.Shapes.{OfChild, born, length-stores, Alike, Reheld, kept, replaced, Kind, ends, meets, forks, opens, loops, moves}
+use Rattle.rules.proofs.Shapes.{OfChild, spawned-count, clocked-count, written-count, born, length-stores, Alike, Reheld, kept, replaced, Kind, ends, meets, forks, opens, loops, moves}
 
 pub record Bounded (s : State) : Type 0 where
   pub sized : Sized s
@@ -59,6 +59,24 @@ pub each : (s : State) → Bounded s → (i : ℕ) → i < s .activities → (e 
     → (x : ℕ) → x < applied s i e .activities → P x (act (applied s i e) x)
 unfolding applied
 each s z i h e f P p q r = each′ s z i h (e .self) P (e .spawned) f p q r
+
+-- THE COUNTS
+
+pub steps-applied : (s : State) (i : ℕ) (e : Effect) → applied s i e .steps ≡ s .steps + 1
+unfolding applied
+steps-applied s i e = refl
+
+pub activities-applied : (s : State) (i : ℕ) (e : Effect) → applied s i e .activities ≡ s .activities + spawnedCount 0 (e .spawned)
+unfolding applied
+activities-applied s i e = spawned-count (s .activities) (e .spawned)
+
+pub clocks-applied : (s : State) (i : ℕ) (e : Effect) → applied s i e .clocks ≡ s .clocks + clockedCount 0 (e .clocked)
+unfolding applied
+clocks-applied s i e = clocked-count (s .clocks) (e .clocked)
+
+pub accumulators-applied : (s : State) (i : ℕ) (e : Effect) → applied s i e .accumulators ≡ s .accumulators + writtenCount 0 (e .write)
+unfolding applied
+accumulators-applied s i e = written-count (s .accumulators) (e .write)
 
 -- WHAT STANDS AT EACH NUMBER
 

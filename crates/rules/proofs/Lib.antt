@@ -16,4 +16,5 @@ pub mod Bodies
 pub mod Stack
 pub mod Potential
 pub mod Spending
+pub mod Reached
 mod Cases
