@@ -4,6 +4,7 @@ pub mod Sums
 pub mod Lists
 pub mod Sized
 pub mod Shapes
+pub mod Bits
 pub mod Applied
 pub mod Holders
 pub mod Stable
@@ -17,4 +18,6 @@ pub mod Stack
 pub mod Potential
 pub mod Spending
 pub mod Reached
+pub mod Start
+pub mod Calls
 mod Cases
