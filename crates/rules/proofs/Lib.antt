@@ -20,4 +20,6 @@ pub mod Spending
 pub mod Reached
 pub mod Start
 pub mod Calls
+pub mod Demand3
+pub mod Runs
 mod Cases

@@ -519,6 +519,11 @@ never-exceeds l p ok w s g i e =
     phase : (k : ℕ) → hold (effect p s i .self) k .phase ≤ after .vt i
     phase k = subst (λ a. hold a k .phase ≤ after .vt i) me (phase-slow (after .inv .fine i there .timed k))
 
+-- A phase is at most the steps taken.
+pub phase-steps : (p : Program) (ok : Accepted p) (s : State) → Reached p ok s → (x k : ℕ) → x < s .activities → hold (act s x) k .phase ≤ s .steps
+unfolding EachHold
+phase-steps p ok s g x k l = omega (arith, phase-slow (g .inv .fine x l .timed k), g .inv .slow x l)
+
 -- NO STANDSTILL
 
 -- Where every unended activity of a reached state waits, none is unended.

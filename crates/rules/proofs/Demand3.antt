@@ -1,0 +1,349 @@
+-- Demand 3, for every accepted table and every list of calls: the ready set is empty only when all have ended, a run takes exactly its counted work, or
+-- less with a fault, and a quiescent phase stays so. By induction over the list: each call's state is reached and well-formed.
+use Prim.Native.Nat.{ℕ, zero, suc, _+_, _≤_, _<_}
+use native.Mathlib.Omega.{arith}
+use native.Mathlib.Decide.{ℕ-discrete}
+use mathlib.Core.List.{List, [], _∷_, _++_}
+use mathlib.Core.Bool.{Bool, true, false, cond, _||_}
+use mathlib.Core.Path.{_≡_, refl, sym, ap, _∙_, subst}
+use mathlib.Core.Logic.{_⊎_, inl, inr}
+use lib.Dec.{ltb, eqb}
+use borrow.Author.Tests.{ltb-false, eqb-true, eqb-false, ne-eqb, le-leb}
+use Rattle.rules.specs.declared.state.State.{State}
+use Rattle.rules.specs.declared.answer.Stepped.{Stepped}
+use Rattle.program.specs.Bodies.{Program, programOf}
+use Rattle.program.specs.Count.{activitiesOf, clocksOf, accumulatorsOf, workOf, ownWork}
+use Rattle.program.specs.Scan.{scan}
+use Rattle.program.specs.Table.{numberOf, overCount}
+use Rattle.program.proofs.Shape.{Accepted}
+use Rattle.rules.specs.Search.{bitsBelow}
+use Rattle.rules.specs.State.{act, ended}
+use Rattle.rules.specs.Clocks.{quiescent}
+use Rattle.rules.specs.Faults.{bit}
+use Rattle.rules.specs.Effects.{applied, envOf}
+use Rattle.rules.specs.WellFormed.{wellFormed}
+use Rattle.rules.specs.Steps.{Limits, startState, at, refusal, exceeds, effect, step, fault, ready, canStep, waits}
+use Rattle.rules.specs.Runs.{taken, run, runFrom, answersFrom, answers, isAccepted, isFault, someFault, finished}
+use Rattle.rules.specs.Demand3.{isOfRun, allOfRun, Demand3}
+use Rattle.rules.proofs.Tests.{decide, cond-zero, and-intro, true-false}
+use Rattle.rules.proofs.Search.{allBelow-intro, allBelow-at}
+use Rattle.rules.proofs.Sums.{sumBelow, sumBelow-same}
+use Rattle.rules.proofs.Bits.{bits-zero, bits-none, bit-passes}
+use Rattle.rules.proofs.Sized.{Sized}
+use Rattle.rules.proofs.Shapes.{kind}
+use Rattle.rules.proofs.Applied.{steps-applied, clocks-applied}
+use Rattle.rules.proofs.Potential.{pend-ended}
+use Rattle.rules.proofs.Reached.{Within, Reached, doing, failed, total, never-exceeds, effect-doing, effect-failed, reached-step, goes, doing-work, failed-work, stable-step, never-still}
+use Rattle.rules.proofs.Start.{start-reached, start-total}
+use Rattle.rules.proofs.Calls.{turnedDown, takenAs, step-advance, advance-taken, advance-refused, refusal-range, no-fault, unfit-none, refused-waits, start-taken}
+
+-- What is proved of well-formedness elsewhere: the start state has it, and a step within the limits keeps it.
+pub record Persists (l : Limits) : Type 0 where
+  pub starts : (p : Program) → Accepted p → wellFormed (l .phase) p startState ≡ true
+  pub keeps : (p : Program) (s : State) (i : ℕ) → Accepted p → Sized s → wellFormed (l .phase) p s ≡ true → refusal p s i ≡ 0
+      → exceeds l p s (effect p s i) ≡ false → wellFormed (l .phase) p (applied s i (effect p s i)) ≡ true
+
+-- An accepted table is within the limits.
+pub within : (l : Limits) (t : List ℕ) → l .work ≤ l .phase → numberOf (l .work) t ≡ 0 → Within l (programOf t)
+unfolding numberOf overCount
+within l t w n = go (decide (eqb (scan t) 0))
+  where
+    p : Program
+    p = programOf t
+
+    over : ℕ
+    over = cond (ltb 64 (activitiesOf p)) 9 (cond (ltb 16 (clocksOf p)) 10 (cond (ltb 16 (accumulatorsOf p)) 11 (cond (ltb (l .work) (workOf p)) 12 0)))
+
+    none : over ≡ 0 → Within l (programOf t)
+    none e =
+        let a = cond-zero (ltb 64 (activitiesOf p)) 8 _ e in
+        let b = cond-zero (ltb 16 (clocksOf p)) 9 _ (a .1) in
+        let c = cond-zero (ltb 16 (accumulatorsOf p)) 10 _ (b .1) in
+        let d = cond-zero (ltb (l .work) (workOf p)) 11 0 (c .1) in
+        record {
+          activities = ltb-false 64 (activitiesOf p) (a .0);
+          clocks = ltb-false 16 (clocksOf p) (b .0);
+          accumulators = ltb-false 16 (accumulatorsOf p) (c .0);
+          work = ltb-false (l .work) (workOf p) (d .0);
+          phase = w;
+        }
+
+    go : (eqb (scan t) 0 ≡ true) ⊎ (eqb (scan t) 0 ≡ false) → Within l (programOf t)
+    go (inl q) = none (rw q at n)
+    go (inr q) = absurd (eqb-false _ _ q (rw q at n))
+
+-- A state at a point of a run.
+pub record Good (l : Limits) (t : List ℕ) (ok : Accepted (programOf t)) (s : State) : Type 0 where
+  pub reached : Reached (programOf t) ok s
+  pub fit : wellFormed (l .phase) (programOf t) s ≡ true
+
+-- What a call of a step comes to there.
+pub data Call (l : Limits) (t : List ℕ) (s : State) (i : ℕ) : Type 0 where
+  refused : (refusal (programOf t) s i ≡ 0 → ⊥) → step l t s i ≡ turnedDown (programOf t) s i → Call l t s i
+  accepted : refusal (programOf t) s i ≡ 0 → fault (programOf t) s i ≡ 0 → step l t s i ≡ takenAs s i (doing (programOf t) s i) → Call l t s i
+  faulted : refusal (programOf t) s i ≡ 0 → (fault (programOf t) s i ≡ 0 → ⊥) → step l t s i ≡ takenAs s i (failed (programOf t) s i) → Call l t s i
+
+-- The steps taken and the work pending make the work of the table, or less once a fault was given.
+unfoldable pub Account : (p : Program) → Accepted p → Bool → State → Type 0
+Account p ok false s = s .steps + total ownWork p ok 1 s ≡ workOf p
+Account p ok true s = s .steps + total ownWork p ok 1 s < workOf p
+
+module _ (l : Limits) (t : List ℕ) (w : l .work ≤ l .phase) (ok : Accepted (programOf t)) (n : numberOf (l .work) t ≡ 0) (persists : Persists l) where
+  abbrev p : Program
+  p = programOf t
+
+  limits : Within l p
+  limits = within l t w n
+
+  -- CALLS
+
+  -- Nothing exceeds a limit: who is not turned down takes the step.
+  pub taking : (s : State) → Good l t ok s → (i : ℕ) → refusal p s i ≡ 0 → step l t s i ≡ takenAs s i (effect p s i)
+  taking s g i r = step-advance l t s i n (g .fit) ∙ advance-taken l p s i r (never-exceeds l p ok limits s (g .reached) i r)
+
+  pub call : (s : State) → Good l t ok s → (i : ℕ) → Call l t s i
+  call s g i = go (ℕ-discrete (refusal p s i) 0) (ℕ-discrete (fault p s i) 0)
+    where
+      go : Dec (refusal p s i ≡ 0) → Dec (fault p s i ≡ 0) → Call l t s i
+      go (no r) f = refused r (step-advance l t s i n (g .fit) ∙ advance-refused l p s i r)
+      go (yes r) (yes f) = accepted r f (taking s g i r ∙ ap (takenAs s i) (effect-doing p s i f))
+      go (yes r) (no f) = faulted r f (taking s g i r ∙ ap (takenAs s i) (effect-failed p s i f))
+
+  -- A taken step leads from a good state to a good state.
+  good-taken : (s : State) → Good l t ok s → (i : ℕ) → refusal p s i ≡ 0 → Good l t ok (applied s i (effect p s i))
+  good-taken s g i r =
+      record {
+        reached = reached-step p ok (limits .activities) s (g .reached) i r;
+        fit = persists .keeps p s i ok (g .reached .inv .bounded .sized) (g .fit) r (never-exceeds l p ok limits s (g .reached) i r);
+      }
+
+  pub good-step : (s : State) → Good l t ok s → (i : ℕ) → Good l t ok (step l t s i .state)
+  good-step s g i = go (ℕ-discrete (refusal p s i) 0)
+    where
+      go : Dec (refusal p s i ≡ 0) → Good l t ok (step l t s i .state)
+      go (no r) = subst (λ x. Good l t ok (x .state)) (sym (step-advance l t s i n (g .fit) ∙ advance-refused l p s i r)) g
+      go (yes r) = subst (λ x. Good l t ok (x .state)) (sym (taking s g i r)) (good-taken s g i r)
+
+  pub good-run : (order : List ℕ) (s : State) → Good l t ok s → Good l t ok (runFrom l t s order)
+  unfolding runFrom
+  good-run [] s g = g
+  good-run (i ∷ order) s g = good-run order (step l t s i .state) (good-step s g i)
+
+  pub good-start : Good l t ok startState
+  good-start = record { reached = start-reached p ok; fit = persists .starts p ok }
+
+  -- ANSWERS
+
+  of-run : (s : State) → Good l t ok s → (i : ℕ) → isOfRun (step l t s i .answer) ≡ true
+  of-run s g i = go (call s g i)
+    where
+      go : Call l t s i → isOfRun (step l t s i .answer) ≡ true
+      go (refused r e) =
+          let q = refusal-range p s i r in
+          subst (λ x. isOfRun (x .answer) ≡ true) (sym e) (and-intro _ _ (le-leb _ _ (q .0)) (le-leb _ _ (q .1)))
+      go (accepted r f e) = subst (λ x. isOfRun (x .answer) ≡ true) (sym e) refl
+      go (faulted r f e) = subst (λ x. isOfRun (x .answer) ≡ true) (sym e) refl
+
+  all-of-run : (order : List ℕ) (s : State) → Good l t ok s → allOfRun (answersFrom l t s order) ≡ true
+  unfolding answersFrom allOfRun
+  all-of-run [] s g = refl
+  all-of-run (i ∷ order) s g = and-intro _ _ (of-run s g i) (all-of-run order (step l t s i .state) (good-step s g i))
+
+  steps-step : (s : State) → Good l t ok s → (i : ℕ) → step l t s i .state .steps ≡ s .steps + cond (isAccepted (step l t s i .answer)) 1 0
+  steps-step s g i = go (call s g i)
+    where
+      P : Stepped → Type 0
+      P x = x .state .steps ≡ s .steps + cond (isAccepted (x .answer)) 1 0
+
+      go : Call l t s i → P (step l t s i)
+      go (refused r e) = subst P (sym e) (omega arith)
+      go (accepted r f e) = subst P (sym e) (steps-applied s i (doing p s i))
+      go (faulted r f e) = subst P (sym e) (steps-applied s i (failed p s i))
+
+  steps-run : (order : List ℕ) (s : State) → Good l t ok s → runFrom l t s order .steps ≡ s .steps + taken (answersFrom l t s order)
+  unfolding runFrom answersFrom taken
+  steps-run [] s g = omega arith
+  steps-run (i ∷ order) s g = let q = steps-run order (step l t s i .state) (good-step s g i) in let r = steps-step s g i in omega arith
+
+  -- WORK
+
+  account-step : (b : Bool) (s : State) → Good l t ok s → (i : ℕ) → Account p ok b s → Account p ok (b || isFault (step l t s i .answer)) (step l t s i .state)
+  unfolding Account
+  account-step b s g i a = go (call s g i)
+    where
+      A : Bool → State → Type 0
+      A b s = Account p ok b s
+
+      P : Stepped → Type 0
+      P x = A (b || isFault (x .answer)) (x .state)
+
+      keep : (b : Bool) → b || false ≡ b
+      keep true = refl
+      keep false = refl
+
+      same : (b : Bool) (s′ : State) → s′ .steps + total ownWork p ok 1 s′ ≡ s .steps + total ownWork p ok 1 s → A b s → A b s′
+      same true s′ e a = omega arith
+      same false s′ e a = e ∙ a
+
+      less : (b : Bool) (s′ : State) → s′ .steps + total ownWork p ok 1 s′ < s .steps + total ownWork p ok 1 s → A b s → A (b || true) s′
+      less true s′ h a = omega arith
+      less false s′ h a = omega arith
+
+      go : Call l t s i → P (step l t s i)
+      go (refused r e) = subst P (sym e) (subst (λ v. A v s) (sym (keep b)) a)
+      go (accepted r f e) =
+          let o = goes p s i r in
+          let u = doing-work p ok (limits .activities) s (g .reached) i (o .there) (o .runs) in
+          let q = no-fault (o .runs) (kind p (envOf s) i (act s i) (at p s i .command) (at p s i .inner)) in
+          let m = steps-applied s i (doing p s i) in
+          subst P (sym e) (subst (λ v. A (b || v) (applied s i (doing p s i))) (sym q) (subst (λ v. A v (applied s i (doing p s i))) (sym (keep b)) (same b (applied s i (doing p s i)) (omega arith) a)))
+      go (faulted r f e) =
+          let o = goes p s i r in
+          let u = failed-work p ok (limits .activities) s (g .reached) i (o .there) (o .runs) f in
+          let m = steps-applied s i (failed p s i) in
+          subst P (sym e) (less b (applied s i (failed p s i)) (omega arith) a)
+
+  account-run : (b : Bool) (order : List ℕ) (s : State) → Good l t ok s → Account p ok b s
+      → Account p ok (b || someFault (answersFrom l t s order)) (runFrom l t s order)
+  unfolding runFrom answersFrom someFault
+  account-run b [] s g a = subst (λ v. Account p ok v s) (keep b) a
+    where
+      keep : (b : Bool) → b ≡ b || false
+      keep true = refl
+      keep false = refl
+  account-run b (i ∷ order) s g a =
+      subst (λ v. Account p ok v (runFrom l t (step l t s i .state) order))
+      (assoc b (isFault (step l t s i .answer)) (someFault (answersFrom l t (step l t s i .state) order)))
+      (account-run (b || isFault (step l t s i .answer)) order (step l t s i .state) (good-step s g i) (account-step b s g i a))
+    where
+      assoc : (a b c : Bool) → (a || b) || c ≡ a || (b || c)
+      assoc true b c = refl
+      assoc false b c = refl
+
+  start-account : Account p ok false startState
+  unfolding Account workOf
+  start-account = omega (arith, start-total p ok ownWork 1)
+
+  total-ended : (s : State) → ((i : ℕ) → i < s .activities → ended s i ≡ true) → total ownWork p ok 1 s ≡ 0
+  unfolding total sumBelow
+  total-ended s h = sumBelow-same (s .activities) _ (λ x. 0) (λ k m. pend-ended ownWork p ok 1 (act s k) (h k m)) ∙ zeros (s .activities)
+    where
+      zeros : (n : ℕ) → sumBelow n (λ x. 0) ≡ 0
+      zeros zero = refl
+      zeros (suc n) = let q = zeros n in omega arith
+
+  -- QUIESCENCE
+
+  made-step : (c : ℕ) (s : State) → Good l t ok s → (i : ℕ) → c < s .clocks → c < step l t s i .state .clocks
+  made-step c s g i h = go (call s g i)
+    where
+      go : Call l t s i → c < step l t s i .state .clocks
+      go (refused r e) = subst (λ x. c < x .state .clocks) (sym e) h
+      go (accepted r f e) = subst (λ x. c < x .state .clocks) (sym e) (omega (arith, clocks-applied s i (doing p s i)))
+      go (faulted r f e) = subst (λ x. c < x .state .clocks) (sym e) (omega (arith, clocks-applied s i (failed p s i)))
+
+  pub stable-call : (c q : ℕ) (s : State) → Good l t ok s → (i : ℕ) → c < s .clocks → quiescent s c q ≡ true → quiescent (step l t s i .state) c q ≡ true
+  stable-call c q s g i h z = go (ℕ-discrete (refusal p s i) 0)
+    where
+      go : Dec (refusal p s i ≡ 0) → quiescent (step l t s i .state) c q ≡ true
+      go (no r) = subst (λ x. quiescent (x .state) c q ≡ true) (sym (step-advance l t s i n (g .fit) ∙ advance-refused l p s i r)) z
+      go (yes r) =
+          subst (λ x. quiescent (x .state) c q ≡ true) (sym (taking s g i r)) (stable-step c q p ok (limits .activities) s (g .reached) i r h z)
+
+  pub stable-run : (c q : ℕ) (order : List ℕ) (s : State) → Good l t ok s → c < s .clocks → quiescent s c q ≡ true → quiescent (runFrom l t s order) c q ≡ true
+  unfolding runFrom
+  stable-run c q [] s g h z = z
+  stable-run c q (i ∷ order) s g h z = stable-run c q order (step l t s i .state) (good-step s g i) (made-step c s g i h) (stable-call c q s g i h z)
+
+  pub run-append : (before after : List ℕ) (s : State) → runFrom l t s (before ++ after) ≡ runFrom l t (runFrom l t s before) after
+  unfolding runFrom
+  run-append [] after s = refl
+  run-append (i ∷ before) after s = run-append before after (step l t s i .state)
+
+  -- THE READY SET
+
+  module _ (s : State) (g : Good l t ok s) where
+    ready-number : ready l t s .number ≡ 0
+    unfolding ready
+    ready-number = unfit-none l t s n (g .fit)
+
+    pub ready-set : ready l t s .set ≡ bitsBelow 64 (canStep p s)
+    unfolding ready
+    ready-set = rw (unfit-none l t s n (g .fit))
+
+    pub alive : ready l t s .set ≡ 0 → finished s ≡ true
+    unfolding finished canStep
+    alive e = allBelow-intro (s .activities) (ended s) (never-still p ok s (g .reached) waiting)
+      where
+        waiting : (i : ℕ) → i < s .activities → ended s i ≡ false → waits p s i ≡ true
+        waiting i m u =
+            let z = bits-zero 64 (canStep p s) (sym ready-set ∙ e) i (omega (arith, g .reached .inv .bounded .count)) in
+            refused-waits p s i (eqb-false _ _ z) m u
+
+    over : finished s ≡ true → ready l t s .set ≡ 0
+    unfolding finished canStep
+    over e = ready-set ∙ bits-none 64 (canStep p s) (λ i m. ne-eqb _ _ (stopped-at i))
+      where
+        stopped-at : (i : ℕ) → refusal p s i ≡ 0 → ⊥
+        stopped-at i r = let o = goes p s i r in true-false _ (allBelow-at (s .activities) (ended s) e i (o .there)) (o .runs)
+
+    steps : (i : ℕ) → bit (ready l t s .set) i ≡ true → isAccepted (step l t s i .answer) ≡ true
+    unfolding canStep
+    steps i b =
+        let q = bit-passes 64 (canStep p s) i (subst (λ k. bit k i ≡ true) ready-set b) in
+        subst (λ x. isAccepted (x .answer) ≡ true) (sym (taking s g i (eqb-true _ _ (q .1)))) refl
+
+  -- RUNS
+
+  pub run-start : (order : List ℕ) → run l t order ≡ runFrom l t startState order
+  unfolding run
+  run-start order = ap (λ s. runFrom l t s order) (start-taken l t n)
+
+  pub answers-start : (order : List ℕ) → answers l t order ≡ answersFrom l t startState order
+  unfolding answers
+  answers-start order = ap (λ s. answersFrom l t s order) (start-taken l t n)
+
+  -- Every point of a run is good.
+  pub good-at : (order : List ℕ) → Good l t ok (run l t order)
+  good-at order = rw (run-start order) (good-run order startState good-start)
+
+  pub counted : (order : List ℕ) → run l t order .steps ≡ taken (answers l t order)
+  counted order = rw (run-start order, answers-start order) (omega (arith, steps-run order startState good-start))
+
+  -- The steps taken and the work pending, at every point.
+  pub account : (order : List ℕ) → Account p ok (someFault (answers l t order)) (run l t order)
+  account order = rw (run-start order, answers-start order) (account-run false order startState good-start start-account)
+
+  whole : (order : List ℕ) → finished (run l t order) ≡ true → someFault (answers l t order) ≡ false → taken (answers l t order) ≡ workOf p
+  unfolding finished Account
+  whole order e f =
+      let a : run l t order .steps + total ownWork p ok 1 (run l t order) ≡ workOf p = subst (λ b. Account p ok b (run l t order)) f (account order) in
+      let z = total-ended (run l t order) (allBelow-at (run l t order .activities) (ended (run l t order)) e) in
+      omega (arith, counted order)
+
+  less : (order : List ℕ) → someFault (answers l t order) ≡ true → taken (answers l t order) < workOf p
+  unfolding Account
+  less order f =
+      let a : run l t order .steps + total ownWork p ok 1 (run l t order) < workOf p = subst (λ b. Account p ok b (run l t order)) f (account order) in
+      omega (arith, counted order)
+
+  stable : (before after : List ℕ) (c q : ℕ) → c < run l t before .clocks → quiescent (run l t before) c q ≡ true → quiescent (run l t (before ++ after)) c q ≡ true
+  stable before after c q h z =
+      subst (λ s. quiescent s c q ≡ true) (sym later) (stable-run c q after (run l t before) (good-at before) h z)
+    where
+      later : run l t (before ++ after) ≡ runFrom l t (run l t before) after
+      later = run-start (before ++ after) ∙ run-append before after startState ∙ ap (λ s. runFrom l t s after) (sym (run-start before))
+
+  pub demand3 : (order : List ℕ) → Demand3 l t order
+  demand3 order =
+      record {
+        answered = rw (answers-start order) (all-of-run order startState good-start);
+        counted = counted order;
+        fit = ready-number (run l t order) (good-at order);
+        alive = alive (run l t order) (good-at order);
+        over = over (run l t order) (good-at order);
+        steps = steps (run l t order) (good-at order);
+        whole = whole order;
+        less = less order;
+        stable = λ before after e c q h z. subst (λ o. quiescent (run l t o) c q ≡ true) e (stable before after c q h z);
+      }
