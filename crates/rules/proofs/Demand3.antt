@@ -23,7 +23,7 @@ use Rattle.rules.specs.Faults.{bit}
 use Rattle.rules.specs.Effects.{applied, envOf}
 use Rattle.rules.specs.WellFormed.{wellFormed}
 use Rattle.rules.specs.Steps.{Limits, startState, at, refusal, exceeds, effect, step, fault, ready, canStep, waits}
-use Rattle.rules.specs.Runs.{taken, run, runFrom, answersFrom, answers, isAccepted, isFault, someFault, finished}
+use Rattle.rules.specs.Runs.{taken, run, runFrom, answers, answersFrom, isAccepted, isFault, someFault, finished}
 use Rattle.rules.specs.Demand3.{isOfRun, allOfRun, Demand3}
 use Rattle.rules.proofs.Tests.{decide, cond-zero, and-intro, true-false}
 use Rattle.rules.proofs.Search.{allBelow-intro, allBelow-at}
@@ -73,8 +73,8 @@ within l t w n = go (decide (eqb (scan t) 0))
     go (inr q) = absurd (eqb-false _ _ q (rw q at n))
 
 -- A state at a point of a run.
-pub record Good (l : Limits) (t : List ℕ) (ok : Accepted (programOf t)) (s : State) : Type 0 where
-  pub reached : Reached (programOf t) ok s
+pub record Good (l : Limits) (t : List ℕ) (s : State) : Type 0 where
+  pub reached : Reached (programOf t) s
   pub fit : wellFormed (l .phase) (programOf t) s ≡ true
 
 -- What a call of a step comes to there.
@@ -84,9 +84,9 @@ pub data Call (l : Limits) (t : List ℕ) (s : State) (i : ℕ) : Type 0 where
   faulted : refusal (programOf t) s i ≡ 0 → (fault (programOf t) s i ≡ 0 → ⊥) → step l t s i ≡ takenAs s i (failed (programOf t) s i) → Call l t s i
 
 -- The steps taken and the work pending make the work of the table, or less once a fault was given.
-unfoldable pub Account : (p : Program) → Accepted p → Bool → State → Type 0
-Account p ok false s = s .steps + total ownWork p ok 1 s ≡ workOf p
-Account p ok true s = s .steps + total ownWork p ok 1 s < workOf p
+unfoldable pub Account : Program → Bool → State → Type 0
+Account p false s = s .steps + total ownWork p 1 s ≡ workOf p
+Account p true s = s .steps + total ownWork p 1 s < workOf p
 
 module _ (l : Limits) (t : List ℕ) (w : l .work ≤ l .phase) (ok : Accepted (programOf t)) (n : numberOf (l .work) t ≡ 0) (persists : Persists l) where
   abbrev p : Program
@@ -98,10 +98,10 @@ module _ (l : Limits) (t : List ℕ) (w : l .work ≤ l .phase) (ok : Accepted (
   -- CALLS
 
   -- Nothing exceeds a limit: who is not turned down takes the step.
-  pub taking : (s : State) → Good l t ok s → (i : ℕ) → refusal p s i ≡ 0 → step l t s i ≡ takenAs s i (effect p s i)
+  pub taking : (s : State) → Good l t s → (i : ℕ) → refusal p s i ≡ 0 → step l t s i ≡ takenAs s i (effect p s i)
   taking s g i r = step-advance l t s i n (g .fit) ∙ advance-taken l p s i r (never-exceeds l p ok limits s (g .reached) i r)
 
-  pub call : (s : State) → Good l t ok s → (i : ℕ) → Call l t s i
+  pub call : (s : State) → Good l t s → (i : ℕ) → Call l t s i
   call s g i = go (ℕ-discrete (refusal p s i) 0) (ℕ-discrete (fault p s i) 0)
     where
       go : Dec (refusal p s i ≡ 0) → Dec (fault p s i ≡ 0) → Call l t s i
@@ -110,31 +110,31 @@ module _ (l : Limits) (t : List ℕ) (w : l .work ≤ l .phase) (ok : Accepted (
       go (yes r) (no f) = faulted r f (taking s g i r ∙ ap (takenAs s i) (effect-failed p s i f))
 
   -- A taken step leads from a good state to a good state.
-  good-taken : (s : State) → Good l t ok s → (i : ℕ) → refusal p s i ≡ 0 → Good l t ok (applied s i (effect p s i))
+  good-taken : (s : State) → Good l t s → (i : ℕ) → refusal p s i ≡ 0 → Good l t (applied s i (effect p s i))
   good-taken s g i r =
       record {
         reached = reached-step p ok (limits .activities) s (g .reached) i r;
         fit = persists .keeps p s i ok (g .reached .inv .bounded .sized) (g .fit) r (never-exceeds l p ok limits s (g .reached) i r);
       }
 
-  pub good-step : (s : State) → Good l t ok s → (i : ℕ) → Good l t ok (step l t s i .state)
+  pub good-step : (s : State) → Good l t s → (i : ℕ) → Good l t (step l t s i .state)
   good-step s g i = go (ℕ-discrete (refusal p s i) 0)
     where
-      go : Dec (refusal p s i ≡ 0) → Good l t ok (step l t s i .state)
-      go (no r) = subst (λ x. Good l t ok (x .state)) (sym (step-advance l t s i n (g .fit) ∙ advance-refused l p s i r)) g
-      go (yes r) = subst (λ x. Good l t ok (x .state)) (sym (taking s g i r)) (good-taken s g i r)
+      go : Dec (refusal p s i ≡ 0) → Good l t (step l t s i .state)
+      go (no r) = subst (λ x. Good l t (x .state)) (sym (step-advance l t s i n (g .fit) ∙ advance-refused l p s i r)) g
+      go (yes r) = subst (λ x. Good l t (x .state)) (sym (taking s g i r)) (good-taken s g i r)
 
-  pub good-run : (order : List ℕ) (s : State) → Good l t ok s → Good l t ok (runFrom l t s order)
+  pub good-run : (order : List ℕ) (s : State) → Good l t s → Good l t (runFrom l t s order)
   unfolding runFrom
   good-run [] s g = g
   good-run (i ∷ order) s g = good-run order (step l t s i .state) (good-step s g i)
 
-  pub good-start : Good l t ok startState
+  pub good-start : Good l t startState
   good-start = record { reached = start-reached p ok; fit = persists .starts p ok }
 
   -- ANSWERS
 
-  of-run : (s : State) → Good l t ok s → (i : ℕ) → isOfRun (step l t s i .answer) ≡ true
+  of-run : (s : State) → Good l t s → (i : ℕ) → isOfRun (step l t s i .answer) ≡ true
   of-run s g i = go (call s g i)
     where
       go : Call l t s i → isOfRun (step l t s i .answer) ≡ true
@@ -144,12 +144,12 @@ module _ (l : Limits) (t : List ℕ) (w : l .work ≤ l .phase) (ok : Accepted (
       go (accepted r f e) = subst (λ x. isOfRun (x .answer) ≡ true) (sym e) refl
       go (faulted r f e) = subst (λ x. isOfRun (x .answer) ≡ true) (sym e) refl
 
-  all-of-run : (order : List ℕ) (s : State) → Good l t ok s → allOfRun (answersFrom l t s order) ≡ true
+  all-of-run : (order : List ℕ) (s : State) → Good l t s → allOfRun (answersFrom l t s order) ≡ true
   unfolding answersFrom allOfRun
   all-of-run [] s g = refl
   all-of-run (i ∷ order) s g = and-intro _ _ (of-run s g i) (all-of-run order (step l t s i .state) (good-step s g i))
 
-  steps-step : (s : State) → Good l t ok s → (i : ℕ) → step l t s i .state .steps ≡ s .steps + cond (isAccepted (step l t s i .answer)) 1 0
+  steps-step : (s : State) → Good l t s → (i : ℕ) → step l t s i .state .steps ≡ s .steps + cond (isAccepted (step l t s i .answer)) 1 0
   steps-step s g i = go (call s g i)
     where
       P : Stepped → Type 0
@@ -160,19 +160,19 @@ module _ (l : Limits) (t : List ℕ) (w : l .work ≤ l .phase) (ok : Accepted (
       go (accepted r f e) = subst P (sym e) (steps-applied s i (doing p s i))
       go (faulted r f e) = subst P (sym e) (steps-applied s i (failed p s i))
 
-  steps-run : (order : List ℕ) (s : State) → Good l t ok s → runFrom l t s order .steps ≡ s .steps + taken (answersFrom l t s order)
+  steps-run : (order : List ℕ) (s : State) → Good l t s → runFrom l t s order .steps ≡ s .steps + taken (answersFrom l t s order)
   unfolding runFrom answersFrom taken
   steps-run [] s g = omega arith
   steps-run (i ∷ order) s g = let q = steps-run order (step l t s i .state) (good-step s g i) in let r = steps-step s g i in omega arith
 
   -- WORK
 
-  account-step : (b : Bool) (s : State) → Good l t ok s → (i : ℕ) → Account p ok b s → Account p ok (b || isFault (step l t s i .answer)) (step l t s i .state)
+  account-step : (b : Bool) (s : State) → Good l t s → (i : ℕ) → Account p b s → Account p (b || isFault (step l t s i .answer)) (step l t s i .state)
   unfolding Account
   account-step b s g i a = go (call s g i)
     where
       A : Bool → State → Type 0
-      A b s = Account p ok b s
+      A b s = Account p b s
 
       P : Stepped → Type 0
       P x = A (b || isFault (x .answer)) (x .state)
@@ -181,11 +181,11 @@ module _ (l : Limits) (t : List ℕ) (w : l .work ≤ l .phase) (ok : Accepted (
       keep true = refl
       keep false = refl
 
-      same : (b : Bool) (s′ : State) → s′ .steps + total ownWork p ok 1 s′ ≡ s .steps + total ownWork p ok 1 s → A b s → A b s′
+      same : (b : Bool) (s′ : State) → s′ .steps + total ownWork p 1 s′ ≡ s .steps + total ownWork p 1 s → A b s → A b s′
       same true s′ e a = omega arith
       same false s′ e a = e ∙ a
 
-      less : (b : Bool) (s′ : State) → s′ .steps + total ownWork p ok 1 s′ < s .steps + total ownWork p ok 1 s → A b s → A (b || true) s′
+      less : (b : Bool) (s′ : State) → s′ .steps + total ownWork p 1 s′ < s .steps + total ownWork p 1 s → A b s → A (b || true) s′
       less true s′ h a = omega arith
       less false s′ h a = omega arith
 
@@ -203,16 +203,16 @@ module _ (l : Limits) (t : List ℕ) (w : l .work ≤ l .phase) (ok : Accepted (
           let m = steps-applied s i (failed p s i) in
           subst P (sym e) (less b (applied s i (failed p s i)) (omega arith) a)
 
-  account-run : (b : Bool) (order : List ℕ) (s : State) → Good l t ok s → Account p ok b s
-      → Account p ok (b || someFault (answersFrom l t s order)) (runFrom l t s order)
+  account-run : (b : Bool) (order : List ℕ) (s : State) → Good l t s → Account p b s
+      → Account p (b || someFault (answersFrom l t s order)) (runFrom l t s order)
   unfolding runFrom answersFrom someFault
-  account-run b [] s g a = subst (λ v. Account p ok v s) (keep b) a
+  account-run b [] s g a = subst (λ v. Account p v s) (keep b) a
     where
       keep : (b : Bool) → b ≡ b || false
       keep true = refl
       keep false = refl
   account-run b (i ∷ order) s g a =
-      subst (λ v. Account p ok v (runFrom l t (step l t s i .state) order))
+      subst (λ v. Account p v (runFrom l t (step l t s i .state) order))
       (assoc b (isFault (step l t s i .answer)) (someFault (answersFrom l t (step l t s i .state) order)))
       (account-run (b || isFault (step l t s i .answer)) order (step l t s i .state) (good-step s g i) (account-step b s g i a))
     where
@@ -220,13 +220,13 @@ module _ (l : Limits) (t : List ℕ) (w : l .work ≤ l .phase) (ok : Accepted (
       assoc true b c = refl
       assoc false b c = refl
 
-  start-account : Account p ok false startState
+  start-account : Account p false startState
   unfolding Account workOf
   start-account = omega (arith, start-total p ok ownWork 1)
 
-  total-ended : (s : State) → ((i : ℕ) → i < s .activities → ended s i ≡ true) → total ownWork p ok 1 s ≡ 0
+  total-ended : (s : State) → ((i : ℕ) → i < s .activities → ended s i ≡ true) → total ownWork p 1 s ≡ 0
   unfolding total sumBelow
-  total-ended s h = sumBelow-same (s .activities) _ (λ x. 0) (λ k m. pend-ended ownWork p ok 1 (act s k) (h k m)) ∙ zeros (s .activities)
+  total-ended s h = sumBelow-same (s .activities) _ (λ x. 0) (λ k m. pend-ended ownWork p 1 (act s k) (h k m)) ∙ zeros (s .activities)
     where
       zeros : (n : ℕ) → sumBelow n (λ x. 0) ≡ 0
       zeros zero = refl
@@ -234,7 +234,7 @@ module _ (l : Limits) (t : List ℕ) (w : l .work ≤ l .phase) (ok : Accepted (
 
   -- QUIESCENCE
 
-  made-step : (c : ℕ) (s : State) → Good l t ok s → (i : ℕ) → c < s .clocks → c < step l t s i .state .clocks
+  made-step : (c : ℕ) (s : State) → Good l t s → (i : ℕ) → c < s .clocks → c < step l t s i .state .clocks
   made-step c s g i h = go (call s g i)
     where
       go : Call l t s i → c < step l t s i .state .clocks
@@ -242,7 +242,7 @@ module _ (l : Limits) (t : List ℕ) (w : l .work ≤ l .phase) (ok : Accepted (
       go (accepted r f e) = subst (λ x. c < x .state .clocks) (sym e) (omega (arith, clocks-applied s i (doing p s i)))
       go (faulted r f e) = subst (λ x. c < x .state .clocks) (sym e) (omega (arith, clocks-applied s i (failed p s i)))
 
-  pub stable-call : (c q : ℕ) (s : State) → Good l t ok s → (i : ℕ) → c < s .clocks → quiescent s c q ≡ true → quiescent (step l t s i .state) c q ≡ true
+  pub stable-call : (c q : ℕ) (s : State) → Good l t s → (i : ℕ) → c < s .clocks → quiescent s c q ≡ true → quiescent (step l t s i .state) c q ≡ true
   stable-call c q s g i h z = go (ℕ-discrete (refusal p s i) 0)
     where
       go : Dec (refusal p s i ≡ 0) → quiescent (step l t s i .state) c q ≡ true
@@ -250,7 +250,7 @@ module _ (l : Limits) (t : List ℕ) (w : l .work ≤ l .phase) (ok : Accepted (
       go (yes r) =
           subst (λ x. quiescent (x .state) c q ≡ true) (sym (taking s g i r)) (stable-step c q p ok (limits .activities) s (g .reached) i r h z)
 
-  pub stable-run : (c q : ℕ) (order : List ℕ) (s : State) → Good l t ok s → c < s .clocks → quiescent s c q ≡ true → quiescent (runFrom l t s order) c q ≡ true
+  pub stable-run : (c q : ℕ) (order : List ℕ) (s : State) → Good l t s → c < s .clocks → quiescent s c q ≡ true → quiescent (runFrom l t s order) c q ≡ true
   unfolding runFrom
   stable-run c q [] s g h z = z
   stable-run c q (i ∷ order) s g h z = stable-run c q order (step l t s i .state) (good-step s g i) (made-step c s g i h) (stable-call c q s g i h z)
@@ -262,7 +262,7 @@ module _ (l : Limits) (t : List ℕ) (w : l .work ≤ l .phase) (ok : Accepted (
 
   -- THE READY SET
 
-  module _ (s : State) (g : Good l t ok s) where
+  module _ (s : State) (g : Good l t s) where
     ready-number : ready l t s .number ≡ 0
     unfolding ready
     ready-number = unfit-none l t s n (g .fit)
@@ -273,7 +273,7 @@ module _ (l : Limits) (t : List ℕ) (w : l .work ≤ l .phase) (ok : Accepted (
 
     pub alive : ready l t s .set ≡ 0 → finished s ≡ true
     unfolding finished canStep
-    alive e = allBelow-intro (s .activities) (ended s) (never-still p ok s (g .reached) waiting)
+    alive e = allBelow-intro (s .activities) (ended s) (never-still p s (g .reached) waiting)
       where
         waiting : (i : ℕ) → i < s .activities → ended s i ≡ false → waits p s i ≡ true
         waiting i m u =
@@ -304,27 +304,27 @@ module _ (l : Limits) (t : List ℕ) (w : l .work ≤ l .phase) (ok : Accepted (
   answers-start order = ap (λ s. answersFrom l t s order) (start-taken l t n)
 
   -- Every point of a run is good.
-  pub good-at : (order : List ℕ) → Good l t ok (run l t order)
+  pub good-at : (order : List ℕ) → Good l t (run l t order)
   good-at order = rw (run-start order) (good-run order startState good-start)
 
   pub counted : (order : List ℕ) → run l t order .steps ≡ taken (answers l t order)
   counted order = rw (run-start order, answers-start order) (omega (arith, steps-run order startState good-start))
 
   -- The steps taken and the work pending, at every point.
-  pub account : (order : List ℕ) → Account p ok (someFault (answers l t order)) (run l t order)
+  pub account : (order : List ℕ) → Account p (someFault (answers l t order)) (run l t order)
   account order = rw (run-start order, answers-start order) (account-run false order startState good-start start-account)
 
   whole : (order : List ℕ) → finished (run l t order) ≡ true → someFault (answers l t order) ≡ false → taken (answers l t order) ≡ workOf p
   unfolding finished Account
   whole order e f =
-      let a : run l t order .steps + total ownWork p ok 1 (run l t order) ≡ workOf p = subst (λ b. Account p ok b (run l t order)) f (account order) in
+      let a : run l t order .steps + total ownWork p 1 (run l t order) ≡ workOf p = subst (λ b. Account p b (run l t order)) f (account order) in
       let z = total-ended (run l t order) (allBelow-at (run l t order .activities) (ended (run l t order)) e) in
       omega (arith, counted order)
 
   less : (order : List ℕ) → someFault (answers l t order) ≡ true → taken (answers l t order) < workOf p
   unfolding Account
   less order f =
-      let a : run l t order .steps + total ownWork p ok 1 (run l t order) < workOf p = subst (λ b. Account p ok b (run l t order)) f (account order) in
+      let a : run l t order .steps + total ownWork p 1 (run l t order) < workOf p = subst (λ b. Account p b (run l t order)) f (account order) in
       omega (arith, counted order)
 
   stable : (before after : List ℕ) (c q : ℕ) → c < run l t before .clocks → quiescent (run l t before) c q ≡ true → quiescent (run l t (before ++ after)) c q ≡ true

@@ -54,46 +54,12 @@ module _ (own : Command → ℕ) where
   sum-same j k n b (x ∷ []) s h = rw (sum-cons j x [], sum-cons k x [], sum-nil j, sum-nil k, cost-same j k n b x (s .0) h)
   sum-same j k n b (x ∷ (y ∷ l)) s h = rw (sum-cons j x (y ∷ l), sum-cons k x (y ∷ l), cost-same j k n b x (s .0) h, sum-same j k n b (y ∷ l) (s .3) h)
 
-  module _ (p : Program) (ok : Accepted p) where
-    -- Levels past the last body change nothing.
-    tally-same : (f g b : ℕ) → b < length p → length p - b ≤ f → length p - b ≤ g → tallyTo own p f b ≡ tallyTo own p g b
-    unfolding tallyTo
-    tally-same zero g b l m n = absurd (omega arith)
-    tally-same (suc f) zero b l m n = absurd (omega arith)
-    tally-same (suc f) (suc g) b l m n =
-        sum-same (tallyTo own p f) (tallyTo own p g) (length p) b (getD p b []) (ok .shaped b l) (λ c h k. tally-same f g c k (omega arith) (omega arith))
+  -- WHAT IS PENDING OF AN ACTIVITY; `late` is the weight of passing, the second step of NEXT
 
-    -- The tally of a body is the cost of its commands.
-    pub tally-body : (b : ℕ) → b < length p → sumOver own (tally own p) (getD p b []) ≡ tally own p b
-    unfolding tally tallyTo
-    tally-body b l = tally-same (suc (length p)) (length p) b l (omega arith) (omega arith)
-
-    -- WHAT IS PENDING OF AN ACTIVITY; `late` is the weight of passing, the second step of NEXT
-
+  module _ (p : Program) where
+    -- Of a frame: its body after its command, and the runs to come.
     unfoldable pub pendFrame : Frame → ℕ
     pendFrame f = sumOver own (tally own p) (tailOf (rest p f)) + (f .runs - 1) * tally own p (f .body)
-
-    -- What a frame's command leaves.
-    frame-moves : (f : Frame) → Placed p f → isEnd (here p f .command) ≡ false → (g : Frame) → g .body ≡ f .body → g .offset ≡ nextOffset p f → g .runs ≡ f .runs
-        → pendFrame g + cost (tally own p) (here p g .command) ≡ pendFrame f
-    unfolding pendFrame here
-    frame-moves f q e g gb ga gr =
-        let o = onward p ok f q e in
-        let there = moved-rest p ok f q o g gb ga in
-        rw (there, o .found, gb, gr, sum-cons (tally own p) (o .next) (o .more)) (omega arith)
-
-    frame-last : (f : Frame) → tailOf (rest p f) ≡ [] → pendFrame f ≡ (f .runs - 1) * tally own p (f .body)
-    unfolding pendFrame
-    frame-last f e = rw (e, sum-nil (tally own p)) (omega arith)
-
-    -- A body begun.
-    frame-begins : (f : Frame) → f .body < length p → f .offset ≡ 0
-        → pendFrame f + cost (tally own p) (here p f .command) ≡ tally own p (f .body) + (f .runs - 1) * tally own p (f .body)
-    unfolding pendFrame here
-    frame-begins f l q =
-        let b = begin p ok (f .body) l in
-        let whole : sumOver own (tally own p) (b .head ∷ b .more) ≡ tally own p (f .body) = subst (λ k. sumOver own (tally own p) k ≡ tally own p (f .body)) (b .whole) (tally-body (f .body) l) in
-        rw (begun-rest p ok f b q) (omega (arith, whole, sum-cons (tally own p) (b .head) (b .more)))
 
     unfoldable pub frames : Activity → ℕ
     frames a = sumBelow (a .depth) (λ d. pendFrame (frame a d))
@@ -117,74 +83,110 @@ module _ (own : Command → ℕ) where
     unfolding pend costNow
     pend-met late a e b = rw (e, b)
 
+  module _ (p : Program) (ok : Accepted p) where
+    -- Levels past the last body change nothing.
+    tally-same : (f g b : ℕ) → b < length p → length p - b ≤ f → length p - b ≤ g → tallyTo own p f b ≡ tallyTo own p g b
+    unfolding tallyTo
+    tally-same zero g b l m n = absurd (omega arith)
+    tally-same (suc f) zero b l m n = absurd (omega arith)
+    tally-same (suc f) (suc g) b l m n =
+        sum-same (tallyTo own p f) (tallyTo own p g) (length p) b (getD p b []) (ok .shaped b l) (λ c h k. tally-same f g c k (omega arith) (omega arith))
+
+    -- The tally of a body is the cost of its commands.
+    pub tally-body : (b : ℕ) → b < length p → sumOver own (tally own p) (getD p b []) ≡ tally own p b
+    unfolding tally tallyTo
+    tally-body b l = tally-same (suc (length p)) (length p) b l (omega arith) (omega arith)
+
+    -- What a frame's command leaves.
+    frame-moves : (f : Frame) → Placed p f → isEnd (here p f .command) ≡ false → (g : Frame) → g .body ≡ f .body → g .offset ≡ nextOffset p f → g .runs ≡ f .runs
+        → pendFrame p g + cost (tally own p) (here p g .command) ≡ pendFrame p f
+    unfolding pendFrame here
+    frame-moves f q e g gb ga gr =
+        let o = onward p ok f q e in
+        let there = moved-rest p ok f q o g gb ga in
+        rw (there, o .found, gb, gr, sum-cons (tally own p) (o .next) (o .more)) (omega arith)
+
+    frame-last : (f : Frame) → tailOf (rest p f) ≡ [] → pendFrame p f ≡ (f .runs - 1) * tally own p (f .body)
+    unfolding pendFrame
+    frame-last f e = rw (e, sum-nil (tally own p)) (omega arith)
+
+    -- A body begun.
+    frame-begins : (f : Frame) → f .body < length p → f .offset ≡ 0
+        → pendFrame p f + cost (tally own p) (here p f .command) ≡ tally own p (f .body) + (f .runs - 1) * tally own p (f .body)
+    unfolding pendFrame here
+    frame-begins f l q =
+        let b = begin p ok (f .body) l in
+        let whole : sumOver own (tally own p) (b .head ∷ b .more) ≡ tally own p (f .body) = subst (λ k. sumOver own (tally own p) k ≡ tally own p (f .body)) (b .whole) (tally-body (f .body) l) in
+        rw (begun-rest p ok f b q) (omega (arith, whole, sum-cons (tally own p) (b .head) (b .more)))
+
     -- The top frame apart.
-    frames-sum : (a : Activity) → 0 < a .depth → frames a ≡ pendFrame (top a) + sumBelow (a .depth - 1) (λ d. pendFrame (frame a d))
+    frames-sum : (a : Activity) → 0 < a .depth → frames p a ≡ pendFrame p (top a) + sumBelow (a .depth - 1) (λ d. pendFrame p (frame a d))
     unfolding frames sumBelow
     frames-sum a h =
         let e : a .depth ≡ suc (a .depth - 1) = omega arith in
-        subst (λ n. sumBelow n (λ d. pendFrame (frame a d)) ≡ pendFrame (top a) + sumBelow (a .depth - 1) (λ d. pendFrame (frame a d))) (sym e) refl
+        subst (λ n. sumBelow n (λ d. pendFrame p (frame a d)) ≡ pendFrame p (top a) + sumBelow (a .depth - 1) (λ d. pendFrame p (frame a d))) (sym e) refl
 
-    -- The frames under the top are the same.
+    -- The frames p under the top are the same.
     frames-top : (a b : Activity) → 0 < a .depth → b .depth ≡ a .depth → ((d : ℕ) → d < a .depth - 1 → frame b d ≡ frame a d)
-        → frames b + pendFrame (top a) ≡ frames a + pendFrame (top b)
+        → frames p b + pendFrame p (top a) ≡ frames p a + pendFrame p (top b)
     frames-top a b h e g =
         let x = frames-sum a h in
         let y = frames-sum b (rw e h) in
-        let r : sumBelow (b .depth - 1) (λ d. pendFrame (frame b d)) ≡ sumBelow (a .depth - 1) (λ d. pendFrame (frame a d))
-        = rw e (sumBelow-same (a .depth - 1) _ _ (λ d l. ap pendFrame (g d l))) in
+        let r : sumBelow (b .depth - 1) (λ d. pendFrame p (frame b d)) ≡ sumBelow (a .depth - 1) (λ d. pendFrame p (frame a d))
+        = rw e (sumBelow-same (a .depth - 1) _ _ (λ d l. ap (pendFrame p) (g d l))) in
         omega arith
 
     module _ (late : ℕ) (a : Activity) (s : Stack p (a .depth) (a .frames)) (e : isEnded (a .status) ≡ false) (n : isAtBarrier (a .status) ≡ false) where
-      -- After a command that has gone on, only the frames are left.
-      pub past-pend : isEnd (here p (top a) .command) ≡ false → pend late (past p a) ≡ frames a
+      -- After a command that has gone on, only the frames p are left.
+      pub past-pend : isEnd (here p (top a) .command) ≡ false → pend p late (past p a) ≡ frames p a
       unfolding past
       past-pend g =
-          let x = pend-running late (past p a) e n in
+          let x = pend-running p late (past p a) e n in
           let m = frame-moves (top a) (place p ok a s) g (top (past p a)) (ap (λ f. f .body) (past-top p ok a s)) (ap (λ f. f .offset) (past-top p ok a s)) (ap (λ f. f .runs) (past-top p ok a s)) in
           let k = frames-top a (past p a) (s .deep) refl (past-under p ok a s) in
           omega arith
 
       -- A run more is done: its END is spent.
-      pub again-pend : 1 < top a .runs → tailOf (rest p (top a)) ≡ [] → pend late (again a) ≡ frames a
+      pub again-pend : 1 < top a .runs → tailOf (rest p (top a)) ≡ [] → pend p late (again a) ≡ frames p a
       unfolding again rerun
       again-pend l last =
-          let x = pend-running late (again a) e n in
-          let m = frame-begins (rerun p ok a s) (place p ok a s .listed) refl in
+          let x = pend-running p late (again a) e n in
+          let m = frame-begins (rerun a) (place p ok a s .listed) refl in
           let k = frames-top a (again a) (s .deep) refl (again-under p ok a s) in
-          let q : pendFrame (top (again a)) + cost (tally own p) (here p (top (again a)) .command) ≡ pendFrame (rerun p ok a s) + cost (tally own p) (here p (rerun p ok a s) .command)
-          = ap (λ f. pendFrame f + cost (tally own p) (here p f .command)) (again-top p ok a s) in
+          let q : pendFrame p (top (again a)) + cost (tally own p) (here p (top (again a)) .command) ≡ pendFrame p (rerun a) + cost (tally own p) (here p (rerun a) .command)
+          = ap (λ f. pendFrame p f + cost (tally own p) (here p f .command)) (again-top p ok a s) in
           let u = frame-last (top a) last in
           let v = times-pred (top a .runs - 1) (tally own p (top a .body)) (omega arith) in
           omega arith
 
       -- A body begun.
-      pub push-pend : (b k c : ℕ) → top a .body < b → b < length p → pend late (pushed a b k c) ≡ frames a + (tally own p b + (k - 1) * tally own p b)
+      pub push-pend : (b k c : ℕ) → top a .body < b → b < length p → pend p late (pushed a b k c) ≡ frames p a + (tally own p b + (k - 1) * tally own p b)
       unfolding pushed begins frames
       push-pend b k c lo hi =
-          let f = begins p ok a s b k c lo hi in
-          let x = pend-running late (pushed a b k c) e n in
+          let f = begins b k c in
+          let x = pend-running p late (pushed a b k c) e n in
           let q = frame-begins f hi refl in
           let m = frames-sum (pushed a b k c) (omega arith) in
           let over : a .depth + 1 - 1 ≡ a .depth = omega arith in
-          let r : sumBelow (pushed a b k c .depth - 1) (λ d. pendFrame (frame (pushed a b k c) d)) ≡ sumBelow (a .depth) (λ d. pendFrame (frame a d))
-          = ap (λ n. sumBelow n (λ d. pendFrame (frame (pushed a b k c) d))) over ∙ sumBelow-same (a .depth) _ _ (λ d l. ap (λ f. pendFrame f) (push-under p ok a s b k c lo hi d l)) in
-          let u : pendFrame (top (pushed a b k c)) + cost (tally own p) (here p (top (pushed a b k c)) .command) ≡ pendFrame f + cost (tally own p) (here p f .command)
-          = ap (λ f. pendFrame f + cost (tally own p) (here p f .command)) (push-top p ok a s b k c lo hi) in
+          let r : sumBelow (pushed a b k c .depth - 1) (λ d. pendFrame p (frame (pushed a b k c) d)) ≡ sumBelow (a .depth) (λ d. pendFrame p (frame a d))
+          = ap (λ n. sumBelow n (λ d. pendFrame p (frame (pushed a b k c) d))) over ∙ sumBelow-same (a .depth) _ _ (λ d l. ap (pendFrame p) (push-under p ok a s b k c lo hi d l)) in
+          let u : pendFrame p (top (pushed a b k c)) + cost (tally own p) (here p (top (pushed a b k c)) .command) ≡ pendFrame p f + cost (tally own p) (here p f .command)
+          = ap (λ f. pendFrame p f + cost (tally own p) (here p f .command)) (push-top p ok a s b k c lo hi) in
           omega arith
 
-    left-frames : (a : Activity) (s : Stack p (a .depth) (a .frames)) (deep : 1 < a .depth) → frames (left p ok a s deep) + pendFrame (top a) ≡ frames a
+    left-frames : (a : Activity) (s : Stack p (a .depth) (a .frames)) (deep : 1 < a .depth) → frames p (left a) + pendFrame p (top a) ≡ frames p a
     unfolding left frames
     left-frames a s deep =
         let k = frames-sum a (omega arith) in
-        let r = sumBelow-same (a .depth - 1) (λ d. pendFrame (frame (left p ok a s deep) d)) (λ d. pendFrame (frame a d)) (λ d l. ap (λ f. pendFrame f) (left-under p ok a s deep d l)) in
+        let r = sumBelow-same (a .depth - 1) (λ d. pendFrame p (frame (left a) d)) (λ d. pendFrame p (frame a d)) (λ d l. ap (pendFrame p) (left-under p ok a s deep d l)) in
         omega arith
 
     -- The last run is done: its END is spent, and the body below has gone on.
     pub pop-pend : (late : ℕ) (a : Activity) → Stack p (a .depth) (a .frames) → 1 < a .depth → isEnded (a .status) ≡ false → isAtBarrier (a .status) ≡ false
-        → top a .runs ≤ 1 → tailOf (rest p (top a)) ≡ [] → pend late (popped p a) ≡ frames a
+        → top a .runs ≤ 1 → tailOf (rest p (top a)) ≡ [] → pend p late (popped p a) ≡ frames p a
     unfolding popped left
     pop-pend late a s l e n r last =
-        let x = past-pend late (left p ok a s l) (left-stack p ok a s l) e n (left-goes p ok a s l) in
+        let x = past-pend late (left a) (left-stack p ok a s l) e n (left-goes p ok a s l) in
         let q = left-frames a s l in
         let u = frame-last (top a) last in
         let z : top a .runs - 1 ≡ 0 = omega arith in
@@ -192,22 +194,22 @@ module _ (own : Command → ℕ) where
         omega arith
 
     -- An activity about to end: its body's END is all that is pending.
-    pub end-pend : (a : Activity) → Stack p (a .depth) (a .frames) → a .depth ≡ 1 → tailOf (rest p (top a)) ≡ [] → frames a ≡ 0
+    pub end-pend : (a : Activity) → Stack p (a .depth) (a .frames) → a .depth ≡ 1 → tailOf (rest p (top a)) ≡ [] → frames p a ≡ 0
     end-pend a s d last =
         let k = frames-sum a (s .deep) in
         let u = frame-last (top a) last in
         let z : a .depth - 1 ≡ 0 = omega arith in
         let v : (top a .runs - 1) * tally own p (top a .body) ≡ 0 = ap (λ m. (m - 1) * tally own p (top a .body)) (ap (λ m. frame a m .runs) z ∙ s .bottom) ∙ zero-mul _ in
-        let y = sumBelow-zero (λ d. pendFrame (frame a d)) (a .depth - 1) z in
+        let y = sumBelow-zero (λ d. pendFrame p (frame a d)) (a .depth - 1) z in
         omega arith
 
     -- What is pending of a spawned activity: its body's tally.
     pub lone-pend : (late : ℕ) (c : Activity) (f : Frame) → c .depth ≡ 1 → c .frames ≡ lone f → c .status ≡ Running → f .body < length p → f .offset ≡ 0 → f .runs ≡ 0
-        → pend late c ≡ tally own p (f .body)
+        → pend p late c ≡ tally own p (f .body)
     unfolding sumBelow frames
     lone-pend late c f d fs r l z n =
-        let x = pend-running late c (rw r) (rw r) in
+        let x = pend-running p late c (rw r) (rw r) in
         let m = frame-begins f l z in
-        let y : frames c + cost (tally own p) (here p (top c) .command) ≡ pendFrame f + 0 + cost (tally own p) (here p f .command) = rw (d, fs) in
+        let y : frames p c + cost (tally own p) (here p (top c) .command) ≡ pendFrame p f + 0 + cost (tally own p) (here p f .command) = rw (d, fs) in
         let v : (f .runs - 1) * tally own p (f .body) ≡ 0 = rw n (zero-mul _) in
         omega arith

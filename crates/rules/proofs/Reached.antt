@@ -61,18 +61,18 @@ pub record Inv (p : Program) (s : State) (vt base : ℕ → ℕ) : Type 0 where
       → hold (act s y) l .clock ≡ hold (act s x) k .clock → inside s w j x ≡ true → inside s w j y ≡ true
 
 -- What is pending in all activities.
-unfoldable pub total : (Command → ℕ) → (p : Program) → Accepted p → ℕ → State → ℕ
-total own p ok late s = sumBelow (s .activities) (λ x. pend own p ok late (act s x))
+unfoldable pub total : (Command → ℕ) → Program → ℕ → State → ℕ
+total own p late s = sumBelow (s .activities) (λ x. pend own p late (act s x))
 
-pub record Reached (p : Program) (ok : Accepted p) (s : State) : Type 0 where
+pub record Reached (p : Program) (s : State) : Type 0 where
   pub vt : ℕ → ℕ
   pub base : ℕ → ℕ
   pub inv : Inv p s vt base
   -- what is made and what is pending is no more than the table counts
-  pub activities : s .activities + total ownActivities p ok 0 s ≤ activitiesOf p
-  pub clocks : s .clocks + total ownClocks p ok 0 s ≤ clocksOf p
-  pub accumulators : s .accumulators + total ownAccumulators p ok 0 s ≤ accumulatorsOf p
-  pub work : s .steps + total ownWork p ok 1 s ≤ workOf p
+  pub activities : s .activities + total ownActivities p 0 s ≤ activitiesOf p
+  pub clocks : s .clocks + total ownClocks p 0 s ≤ clocksOf p
+  pub accumulators : s .accumulators + total ownAccumulators p 0 s ≤ accumulatorsOf p
+  pub work : s .steps + total ownWork p 1 s ≤ workOf p
 
 -- The counts of an accepted table are within its limits.
 pub record Within (l : Limits) (p : Program) : Type 0 where
@@ -114,13 +114,13 @@ work-some c = omega (arith, counts [] (envOf zeroState) 0 noActivity c [] .3)
 
 -- WHAT IS PENDING AFTER A STEP
 
-total-applied : (own : Command → ℕ) (p : Program) (ok : Accepted p) (late : ℕ) (s : State) → Bounded s → (i : ℕ) → i < s .activities → (e : Effect) → Fits s (e .spawned)
-    → total own p ok late (applied s i e) + pend own p ok late (act s i) ≡ total own p ok late s + pend own p ok late (e .self) + pendChild own p ok late (e .spawned)
+total-applied : (own : Command → ℕ) (p : Program) (late : ℕ) (s : State) → Bounded s → (i : ℕ) → i < s .activities → (e : Effect) → Fits s (e .spawned)
+    → total own p late (applied s i e) + pend own p late (act s i) ≡ total own p late s + pend own p late (e .self) + pendChild own p late (e .spawned)
 unfolding total pendChild sumBelow Fits applied
-total-applied own p ok late s z i h e f = go (e .spawned) refl
+total-applied own p late s z i h e f = go (e .spawned) refl
   where
     P : Activity → ℕ
-    P b = pend own p ok late b
+    P b = pend own p late b
 
     core : sumBelow (s .activities) (λ x. P (act (applied s i e) x)) + P (act s i) ≡ sumBelow (s .activities) (λ x. P (act s x)) + P (e .self)
     core =
@@ -128,7 +128,7 @@ total-applied own p ok late s z i h e f = go (e .spawned) refl
         (sumBelow-one (s .activities) (λ x. P (act (applied s i e) x)) (λ x. P (act s x)) i h (λ k l n. ap P (act-old s i e k l n)))
 
     go : (ch : Spawned) → e .spawned ≡ ch
-        → sumBelow (spawnedCount (s .activities) ch) (λ x. P (act (applied s i e) x)) + P (act s i) ≡ total own p ok late s + P (e .self) + pendChild own p ok late ch
+        → sumBelow (spawnedCount (s .activities) ch) (λ x. P (act (applied s i e) x)) + P (act s i) ≡ total own p late s + P (e .self) + pendChild own p late ch
     go nobody q = omega (arith, core)
     go (one c) q =
         let d : P (act (applied s i e) (s .activities)) ≡ P c = ap P (act-child s z i e c q (subst (λ ch. Fits s ch) q f)) in
@@ -263,16 +263,16 @@ same-spawner (opens b q s n) = ap (λ b. b .spawner) s
 same-spawner (loops k b q s n) = ap (λ b. b .spawner) s
 same-spawner (moves b g h t k s n) = ap (λ b. b .spawner) s ∙ k .spawner
 
-module _ (p : Program) (ok : Accepted p) (few : activitiesOf p ≤ 64) (s : State) (g : Reached p ok s) (i : ℕ) (h : i < s .activities) (r : ended s i ≡ false) where
+module _ (p : Program) (ok : Accepted p) (few : activitiesOf p ≤ 64) (s : State) (g : Reached p s) (i : ℕ) (h : i < s .activities) (r : ended s i ≡ false) where
   v : Inv p s (g .vt) (g .base)
   v = g .inv
 
   size : SizedActivity (act s i)
   size = g .inv .bounded .sized .each i (omega (arith, h, g .inv .bounded .count))
 
-  pend-total : (own : Command → ℕ) (late : ℕ) → pend own p ok late (act s i) ≤ total own p ok late s
+  pend-total : (own : Command → ℕ) (late : ℕ) → pend own p late (act s i) ≤ total own p late s
   unfolding total
-  pend-total own late = sumBelow-at (s .activities) (λ x. pend own p ok late (act s x)) i h
+  pend-total own late = sumBelow-at (s .activities) (λ x. pend own p late (act s x)) i h
 
   its : Kind p (envOf s) i (act s i) (at p s i .command) (doing p s i)
   its = kind p (envOf s) i (act s i) (at p s i .command) (at p s i .inner)
@@ -283,8 +283,8 @@ module _ (p : Program) (ok : Accepted p) (few : activitiesOf p ≤ 64) (s : Stat
   -- A STEP WITHOUT A FAULT
 
   spending : (own : Command → ℕ) (late : ℕ) → late ≤ own Next
-      → pend own p ok late (act s i)
-      ≡ spent own late (at p s i .command) (isAtBarrier (act s i .status)) + pend own p ok late (doing p s i .self) + pendChild own p ok late (doing p s i .spawned)
+      → pend own p late (act s i)
+      ≡ spent own late (at p s i .command) (isAtBarrier (act s i .status)) + pend own p late (doing p s i .self) + pendChild own p late (doing p s i .spawned)
   unfolding at
   spending own late l = spends p ok s i (act s i) (g .inv .stacks i h r) r (g .inv .meets i h) (at p s i .command) refl own late l its
 
@@ -308,13 +308,13 @@ module _ (p : Program) (ok : Accepted p) (few : activitiesOf p ≤ 64) (s : Stat
 
   -- What is pending falls by the weight of the step.
   doing-total : (own : Command → ℕ) (late : ℕ) → late ≤ own Next
-      → total own p ok late (applied s i (doing p s i)) + spent own late (at p s i .command) (isAtBarrier (act s i .status)) ≡ total own p ok late s
+      → total own p late (applied s i (doing p s i)) + spent own late (at p s i .command) (isAtBarrier (act s i .status)) ≡ total own p late s
   doing-total own late l =
-      let x = total-applied own p ok late s (g .inv .bounded) i h (doing p s i) doing-fits in
+      let x = total-applied own p late s (g .inv .bounded) i h (doing p s i) doing-fits in
       let y = spending own late l in
       omega arith
 
-  pub doing-work : total ownWork p ok 1 (applied s i (doing p s i)) + 1 ≡ total ownWork p ok 1 s
+  pub doing-work : total ownWork p 1 (applied s i (doing p s i)) + 1 ≡ total ownWork p 1 s
   unfolding Counts
   doing-work =
       let x = doing-total ownWork 1 next-work in
@@ -347,7 +347,7 @@ module _ (p : Program) (ok : Accepted p) (few : activitiesOf p ≤ 64) (s : Stat
       st : Stack p (act s i .depth) (act s i .frames)
       st = g .inv .stacks i h r
 
-      left : Left p ok s i (act s i) st r (g .inv .meets i h) (doing p s i)
+      left : Left p s (act s i) (doing p s i)
       left = left-by p ok s i (act s i) st r (g .inv .meets i h) (at p s i .command) refl its
 
       vt′ : ℕ → ℕ
@@ -366,7 +366,7 @@ module _ (p : Program) (ok : Accepted p) (few : activitiesOf p ≤ 64) (s : Stat
       born-time : vt′ (s .activities) ≡ g .vt i
       born-time = upd-other (upd (g .vt) (s .activities) (g .vt i)) i _ (s .activities) (λ z. omega arith) ∙ upd-same (g .vt) (s .activities) (g .vt i)
 
-  pub doing-reached : fault p s i ≡ 0 → Reached p ok (applied s i (doing p s i))
+  pub doing-reached : fault p s i ≡ 0 → Reached p (applied s i (doing p s i))
   unfolding Counts
   doing-reached f =
       record {
@@ -380,21 +380,21 @@ module _ (p : Program) (ok : Accepted p) (few : activitiesOf p ≤ 64) (s : Stat
       }
     where
       -- what is made and what is pending, of one count
-      made : (own : Command → ℕ) (n n′ : ℕ) {m most : ℕ} → n + total own p ok 0 s ≤ most → n′ ≡ n + m → m ≡ own (at p s i .command)
-          → (isNext (at p s i .command) ≡ true → own (at p s i .command) ≡ 0) → n′ + total own p ok 0 (applied s i (doing p s i)) ≤ most
+      made : (own : Command → ℕ) (n n′ : ℕ) {m most : ℕ} → n + total own p 0 s ≤ most → n′ ≡ n + m → m ≡ own (at p s i .command)
+          → (isNext (at p s i .command) ≡ true → own (at p s i .command) ≡ 0) → n′ + total own p 0 (applied s i (doing p s i)) ≤ most
       made own n n′ a b c z = let x = doing-total own 0 (omega arith) in let y = weighs own z in omega arith
 
   -- A FAULT
 
-  failed-total : (own : Command → ℕ) (late : ℕ) → total own p ok late (applied s i (failed p s i)) + pend own p ok late (act s i) ≡ total own p ok late s
+  failed-total : (own : Command → ℕ) (late : ℕ) → total own p late (applied s i (failed p s i)) + pend own p late (act s i) ≡ total own p late s
   unfolding Fits pendChild
   failed-total own late =
-      let x = total-applied own p ok late s (g .inv .bounded) i h (failed p s i) tt in
-      let z = pend-ended own p ok late (failed p s i .self) refl in
+      let x = total-applied own p late s (g .inv .bounded) i h (failed p s i) tt in
+      let z = pend-ended own p late (failed p s i .self) refl in
       omega arith
 
   -- The command and an END at least are never done.
-  pub failed-work : (fault p s i ≡ 0 → ⊥) → total ownWork p ok 1 (applied s i (failed p s i)) + 2 ≤ total ownWork p ok 1 s
+  pub failed-work : (fault p s i ≡ 0 → ⊥) → total ownWork p 1 (applied s i (failed p s i)) + 2 ≤ total ownWork p 1 s
   unfolding at fault
   failed-work f =
       let q = faulty f its in
@@ -402,7 +402,7 @@ module _ (p : Program) (ok : Accepted p) (few : activitiesOf p ≤ 64) (s : Stat
       let y = fault-pend p ok s i (act s i) (g .inv .stacks i h r) r (g .inv .meets i h) (at p s i .command) refl ownWork 1 work-some (q .0) (q .1) in
       omega arith
 
-  pub failed-reached : (fault p s i ≡ 0 → ⊥) → Reached p ok (applied s i (failed p s i))
+  pub failed-reached : (fault p s i ≡ 0 → ⊥) → Reached p (applied s i (failed p s i))
   unfolding Fits OfChild Opening
   failed-reached f =
       record {
@@ -433,20 +433,20 @@ module _ (p : Program) (ok : Accepted p) (few : activitiesOf p ≤ 64) (s : Stat
           (omega (arith, g .inv .slow i h)) tt
 
 -- A step that is not turned down keeps the invariant.
-pub reached-step : (p : Program) (ok : Accepted p) → activitiesOf p ≤ 64 → (s : State) → Reached p ok s → (i : ℕ) → refusal p s i ≡ 0
-    → Reached p ok (applied s i (effect p s i))
+pub reached-step : (p : Program) (ok : Accepted p) → activitiesOf p ≤ 64 → (s : State) → Reached p s → (i : ℕ) → refusal p s i ≡ 0
+    → Reached p (applied s i (effect p s i))
 reached-step p ok few s g i e = go (ℕ-discrete (fault p s i) 0)
   where
     r : Goes p s i
     r = goes p s i e
 
-    go : Dec (fault p s i ≡ 0) → Reached p ok (applied s i (effect p s i))
+    go : Dec (fault p s i ≡ 0) → Reached p (applied s i (effect p s i))
     go (yes f) = rw (effect-doing p s i f) (doing-reached p ok few s g i (r .there) (r .runs) f)
     go (no f) = rw (effect-failed p s i f) (failed-reached p ok few s g i (r .there) (r .runs) f)
 
 -- NUMBER 17 NEVER COMES
 
-pub fits-step : (p : Program) (ok : Accepted p) → activitiesOf p ≤ 64 → (s : State) → Reached p ok s → (i : ℕ) → refusal p s i ≡ 0 → Fits s (effect p s i .spawned)
+pub fits-step : (p : Program) (ok : Accepted p) → activitiesOf p ≤ 64 → (s : State) → Reached p s → (i : ℕ) → refusal p s i ≡ 0 → Fits s (effect p s i .spawned)
 unfolding Fits
 fits-step p ok few s g i e = go (ℕ-discrete (fault p s i) 0)
   where
@@ -458,14 +458,14 @@ fits-step p ok few s g i e = go (ℕ-discrete (fault p s i) 0)
     go (no f) = rw (effect-failed p s i f) tt
 
 -- What is pending after a step is less by 1, by 2 at least where it is a fault.
-pub work-step : (p : Program) (ok : Accepted p) → activitiesOf p ≤ 64 → (s : State) → Reached p ok s → (i : ℕ) → refusal p s i ≡ 0
-    → total ownWork p ok 1 (applied s i (effect p s i)) + 1 ≤ total ownWork p ok 1 s
+pub work-step : (p : Program) (ok : Accepted p) → activitiesOf p ≤ 64 → (s : State) → Reached p s → (i : ℕ) → refusal p s i ≡ 0
+    → total ownWork p 1 (applied s i (effect p s i)) + 1 ≤ total ownWork p 1 s
 work-step p ok few s g i e = go (ℕ-discrete (fault p s i) 0)
   where
     r : Goes p s i
     r = goes p s i e
 
-    go : Dec (fault p s i ≡ 0) → total ownWork p ok 1 (applied s i (effect p s i)) + 1 ≤ total ownWork p ok 1 s
+    go : Dec (fault p s i ≡ 0) → total ownWork p 1 (applied s i (effect p s i)) + 1 ≤ total ownWork p 1 s
     go (yes f) = rw (effect-doing p s i f) (omega (arith, doing-work p ok few s g i (r .there) (r .runs)))
     go (no f) = rw (effect-failed p s i f) (omega (arith, failed-work p ok few s g i (r .there) (r .runs) f))
 
@@ -491,7 +491,7 @@ makes-one (offer x v) e = absurd (true-false false e refl)
 makes-one (reset x v) e = absurd (true-false false e refl)
 
 -- "no state reached from a start meets this": what a step makes comes out of what was pending, and a phase is at most the steps taken.
-pub never-exceeds : (l : Limits) (p : Program) (ok : Accepted p) → Within l p → (s : State) → Reached p ok s → (i : ℕ) → refusal p s i ≡ 0
+pub never-exceeds : (l : Limits) (p : Program) (ok : Accepted p) → Within l p → (s : State) → Reached p s → (i : ℕ) → refusal p s i ≡ 0
     → exceeds l p s (effect p s i) ≡ false
 unfolding exceeds EachHold
 never-exceeds l p ok w s g i e =
@@ -504,7 +504,7 @@ never-exceeds l p ok w s g i e =
     x : Effect
     x = effect p s i
 
-    after : Reached p ok (applied s i (effect p s i))
+    after : Reached p (applied s i (effect p s i))
     after = reached-step p ok (w .activities) s g i e
 
     r : Goes p s i
@@ -520,21 +520,21 @@ never-exceeds l p ok w s g i e =
     phase k = subst (λ a. hold a k .phase ≤ after .vt i) me (phase-slow (after .inv .fine i there .timed k))
 
 -- A phase is at most the steps taken.
-pub phase-steps : (p : Program) (ok : Accepted p) (s : State) → Reached p ok s → (x k : ℕ) → x < s .activities → hold (act s x) k .phase ≤ s .steps
+pub phase-steps : (p : Program) (s : State) → Reached p s → (x k : ℕ) → x < s .activities → hold (act s x) k .phase ≤ s .steps
 unfolding EachHold
-phase-steps p ok s g x k l = omega (arith, phase-slow (g .inv .fine x l .timed k), g .inv .slow x l)
+phase-steps p s g x k l = omega (arith, phase-slow (g .inv .fine x l .timed k), g .inv .slow x l)
 
 -- NO STANDSTILL
 
 -- Where every unended activity of a reached state waits, none is unended.
-pub never-still : (p : Program) (ok : Accepted p) (s : State) → Reached p ok s → ((i : ℕ) → i < s .activities → ended s i ≡ false → waits p s i ≡ true)
+pub never-still : (p : Program) (s : State) → Reached p s → ((i : ℕ) → i < s .activities → ended s i ≡ false → waits p s i ≡ true)
     → (i : ℕ) → i < s .activities → ended s i ≡ true
-never-still p ok s g = no-standstill p s (g .vt) (g .base) (sane p s (g .vt) (g .base) (g .inv))
+never-still p s g = no-standstill p s (g .vt) (g .base) (sane p s (g .vt) (g .base) (g .inv))
 
 -- QUIESCENCE
 
 -- A quiescent phase of a made clock is quiescent after a step.
-pub stable-step : (c q : ℕ) (p : Program) (ok : Accepted p) → activitiesOf p ≤ 64 → (s : State) → Reached p ok s → (i : ℕ) → refusal p s i ≡ 0
+pub stable-step : (c q : ℕ) (p : Program) (ok : Accepted p) → activitiesOf p ≤ 64 → (s : State) → Reached p s → (i : ℕ) → refusal p s i ≡ 0
     → c < s .clocks → quiescent s c q ≡ true → quiescent (applied s i (effect p s i)) c q ≡ true
 unfolding OfChild Fits fault
 stable-step c q p ok few s g i e l h = go (ℕ-discrete (fault p s i) 0)

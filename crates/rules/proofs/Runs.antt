@@ -16,7 +16,7 @@ use Rattle.program.specs.Table.{numberOf}
 use Rattle.program.proofs.Shape.{Accepted}
 use Rattle.rules.specs.Search.{someBelow}
 use Rattle.rules.specs.Steps.{Limits, canStep, refusal, step}
-use Rattle.rules.specs.Runs.{taken, answersFrom, answers, finished, run, runFrom, isAccepted}
+use Rattle.rules.specs.Runs.{taken, answers, answersFrom, finished, runFrom, run, isAccepted}
 use Rattle.rules.proofs.Tests.{decide}
 use Rattle.rules.proofs.Search.{Witness, someBelow-witness, someBelow-none}
 use Rattle.rules.proofs.Bits.{bits-none}
@@ -35,7 +35,7 @@ module _ (l : Limits) (t : List ℕ) (w : l .work ≤ l .phase) (ok : Accepted (
   terminates order = omega (arith, counted l t w ok n persists order, good-at l t w ok n persists order .reached .work)
 
   -- Some activity is ready, or all have ended.
-  ready-or-done : (s : State) → Good l t ok s → (Witness 64 (canStep (programOf t) s)) ⊎ (finished s ≡ true)
+  ready-or-done : (s : State) → Good l t s → (Witness 64 (canStep (programOf t) s)) ⊎ (finished s ≡ true)
   ready-or-done s g = go (decide (someBelow 64 (canStep (programOf t) s)))
     where
       go : (someBelow 64 (canStep (programOf t) s) ≡ true) ⊎ (someBelow 64 (canStep (programOf t) s) ≡ false) → (Witness 64 (canStep (programOf t) s)) ⊎ (finished s ≡ true)
@@ -45,12 +45,12 @@ module _ (l : Limits) (t : List ℕ) (w : l .work ≤ l .phase) (ok : Accepted (
           (ready-set l t w ok n persists s g ∙ bits-none 64 (canStep (programOf t) s) (someBelow-none 64 (canStep (programOf t) s) e)))
 
   -- With k of work pending at most.
-  finishing : (k : ℕ) (s : State) → Good l t ok s → total ownWork (programOf t) ok 1 s < k → Finishing l t s
+  finishing : (k : ℕ) (s : State) → Good l t s → total ownWork (programOf t) 1 s < k → Finishing l t s
   unfolding runFrom answersFrom taken canStep
   finishing zero s g h = absurd (not-suc-le-zero h)
   finishing (suc k) s g h = go (finishing k) (ready-or-done s g)
     where
-      go : ((s : State) → Good l t ok s → total ownWork (programOf t) ok 1 s < k → Finishing l t s)
+      go : ((s : State) → Good l t s → total ownWork (programOf t) 1 s < k → Finishing l t s)
           → (Witness 64 (canStep (programOf t) s)) ⊎ (finished s ≡ true) → Finishing l t s
       go ih (inr e) = record { more = []; taken-all = refl; done = e }
       go ih (inl x) =
@@ -62,14 +62,14 @@ module _ (l : Limits) (t : List ℕ) (w : l .work ≤ l .phase) (ok : Accepted (
           answer : isAccepted (step l t s (x .at) .answer) ≡ true
           answer = ap (λ y. isAccepted (y .answer)) (taking l t w ok n persists s g (x .at) r)
 
-          falls : total ownWork (programOf t) ok 1 (step l t s (x .at) .state) < k
+          falls : total ownWork (programOf t) 1 (step l t s (x .at) .state) < k
           falls =
               let q = work-step (programOf t) ok (within l t w n .activities) s (g .reached) (x .at) r in
-              subst (λ y. total ownWork (programOf t) ok 1 (y .state) < k) (sym (taking l t w ok n persists s g (x .at) r)) (omega arith)
+              subst (λ y. total ownWork (programOf t) 1 (y .state) < k) (sym (taking l t w ok n persists s g (x .at) r)) (omega arith)
 
           rest : Finishing l t (step l t s (x .at) .state)
           rest = ih (step l t s (x .at) .state) (good-step l t w ok n persists s g (x .at)) falls
 
   -- From every point of a run a list finishes it.
   pub finishes-from : (order : List ℕ) → Finishing l t (run l t order)
-  finishes-from order = finishing (suc (total ownWork (programOf t) ok 1 (run l t order))) (run l t order) (good-at l t w ok n persists order) (omega arith)
+  finishes-from order = finishing (suc (total ownWork (programOf t) 1 (run l t order))) (run l t order) (good-at l t w ok n persists order) (omega arith)

@@ -36,9 +36,16 @@ use Rattle.rules.proofs.Potential.{pend, frames, cost, pend-running, pa
 unfoldable pub spent : (Command → ℕ) → ℕ → Command → Bool → ℕ
 spent own late c b = cond b late (own c - cond (isNext c) late 0)
 
-unfoldable pub pendChild : (Command → ℕ) → (p : Program) → Accepted p → ℕ → Spawned → ℕ
-pendChild own p ok late nobody = 0
-pendChild own p ok late (one c) = pend own p ok late c
+-- What is pending of the one spawned.
+unfoldable pub pendChild : (Command → ℕ) → Program → ℕ → Spawned → ℕ
+pendChild own p late nobody = 0
+pendChild own p late (one c) = pend own p late c
+
+-- What a step leaves of its activity.
+pub record Left (p : Program) (s : State) (a : Activity) (x : Effect) : Type 0 where
+  pub stack : isEnded (x .self .status) ≡ false → Stack p (x .self .depth) (x .self .frames)
+  pub meets : isAtBarrier (x .self .status) ≡ true → isNext (here p (top (x .self)) .command) ≡ true
+  pub opening : Opening p s a x
 
 module _ (p : Program) (ok : Accepted p) (s : State) (i : ℕ) (a : Activity) (st : Stack p (a .depth) (a .frames)) (u : isEnded (a .status) ≡ false)
     (mt : isAtBarrier (a .status) ≡ true → isNext (here p (top a) .command) ≡ true) where
@@ -52,16 +59,10 @@ module _ (p : Program) (ok : Accepted p) (s : State) (i : ℕ) (a : Activity) (s
 
   -- THE STACK
 
-  -- What a step leaves of its activity.
-  pub record Left (x : Effect) : Type 0 where
-    pub stack : isEnded (x .self .status) ≡ false → Stack p (x .self .depth) (x .self .frames)
-    pub meets : isAtBarrier (x .self .status) ≡ true → isNext (here p (top (x .self)) .command) ≡ true
-    pub opening : Opening p s a x
-
   module _ (c : Command) (q : here p (top a) .command ≡ c) where
     -- An activity with the same stack has gone on after the command.
     left-past : (b : Activity) → b .depth ≡ a .depth → b .frames ≡ a .frames → isAtBarrier (b .status) ≡ false → isEnd c ≡ false → (x : Effect)
-        → x .self ≡ past p b → Left x
+        → x .self ≡ past p b → Left p s a x
     unfolding past Opening
     left-past b bd bf bb g x xs =
         record {
@@ -78,7 +79,7 @@ module _ (p : Program) (ok : Accepted p) (s : State) (i : ℕ) (a : Activity) (s
 
     -- A body is begun by FINISH or REPEAT.
     left-push : (b n f : ℕ) → top a .body < b → b < length p → isEnd c ≡ false → isNext c ≡ false → (isFinish c ≡ true → f ≡ s .activities) → (x : Effect)
-        → x .self ≡ pushed a b n f → x .spawned ≡ nobody → Left x
+        → x .self ≡ pushed a b n f → x .spawned ≡ nobody → Left p s a x
     unfolding pushed Opening
     left-push b n f lo hi g h k x xs xn =
         record {
@@ -91,11 +92,11 @@ module _ (p : Program) (ok : Accepted p) (s : State) (i : ℕ) (a : Activity) (s
         go j (inl m) = open-before m
         go j (inr m) = begun-now (omega (arith, k (rw q at (m .0)), m .1)) xn
 
-    left-end : isEnd c ≡ true → isNext c ≡ false → (x : Effect) → x .self ≡ endOf p a → Left x
+    left-end : isEnd c ≡ true → isNext c ≡ false → (x : Effect) → x .self ≡ endOf p a → Left p s a x
     unfolding endOf again popped past Opening
     left-end l h x xs = go (leb (a .depth) 1) refl (ltb 1 (top a .runs)) refl xs
       where
-        go : (y : Bool) → leb (a .depth) 1 ≡ y → (z : Bool) → ltb 1 (top a .runs) ≡ z → x .self ≡ cond y (stopped a Ended) (cond z (again a) (popped p a)) → Left x
+        go : (y : Bool) → leb (a .depth) 1 ≡ y → (z : Bool) → ltb 1 (top a .runs) ≡ z → x .self ≡ cond y (stopped a Ended) (cond z (again a) (popped p a)) → Left p s a x
         go true d z r xs =
             record {
               stack = λ h. absurd (true-false true refl (rw xs at h));
@@ -115,7 +116,7 @@ module _ (p : Program) (ok : Accepted p) (s : State) (i : ℕ) (a : Activity) (s
               opening = λ h j m. open-before (pop-open p ok a st (leb-false (a .depth) 1 d) j (rw xs at m));
             }
 
-    left-next : isEnd c ≡ false → isNext c ≡ true → (b : Bool) → (x : Effect) → x .self ≡ nextOf p a b → Left x
+    left-next : isEnd c ≡ false → isNext c ≡ true → (b : Bool) → (x : Effect) → x .self ≡ nextOf p a b → Left p s a x
     unfolding nextOf Opening
     left-next g h true x xs = left-past (withHolds a Running (map pass (a .holds))) refl refl refl g x xs
     left-next g h false x xs = record { stack = λ z. rw xs st; meets = λ z. rw (xs, q) h; opening = λ z j m. open-before (rw xs at m) }
@@ -124,7 +125,7 @@ module _ (p : Program) (ok : Accepted p) (s : State) (i : ℕ) (a : Activity) (s
     pub names-above : names c ≡ true → (top a .body < named c) × (named c < length p)
     names-above n = subst (λ c. (top a .body < named c) × (named c < length p)) q (above-here p ok (top a) (place p ok a st) (rw q n))
 
-    pub left-by : {x : Effect} → Kind p (envOf s) i a c x → Left x
+    pub left-by : {x : Effect} → Kind p (envOf s) i a c x → Left p s a x
     unfolding isEnd isNext opcode names named rowOf rowAt rows operandsOf
     left-by {x} (ends z xs n) = left-end (rw z) (rw z) x xs
     left-by {x} (meets z xs n) = left-next (rw z) (rw z) (isAtBarrier (a .status)) x xs
@@ -146,10 +147,10 @@ module _ (p : Program) (ok : Accepted p) (s : State) (i : ℕ) (a : Activity) (s
 
     module _ (own : Command → ℕ) (late : ℕ) where
       abbrev Pend : Activity → ℕ
-      Pend b = pend own p ok late b
+      Pend b = pend own p late b
 
-      before : isNext c ≡ false → Pend a ≡ frames own p ok a + cost own (tally own p) c
-      before n = pend-running own p ok late a u (standing (rw q n)) ∙ ap (λ o. frames own p ok a + cost own (tally own p) o) q
+      before : isNext c ≡ false → Pend a ≡ frames own p a + cost own (tally own p) c
+      before n = pend-running own p late a u (standing (rw q n)) ∙ ap (λ o. frames own p a + cost own (tally own p) o) q
 
       weight : isNext c ≡ false → spent own late c (isAtBarrier (a .status)) ≡ own c
       unfolding spent
@@ -157,12 +158,12 @@ module _ (p : Program) (ok : Accepted p) (s : State) (i : ℕ) (a : Activity) (s
 
       -- An activity with the same stack has gone on.
       past-left : (b : Activity) → b .depth ≡ a .depth → b .frames ≡ a .frames → isAtBarrier (b .status) ≡ false → isEnded (b .status) ≡ false → isEnd c ≡ false
-          → Pend (past p b) ≡ frames own p ok a
+          → Pend (past p b) ≡ frames own p a
       unfolding frames
       past-left b bd bf bb be g =
           past-pend own p ok late b (rw (bd, bf) st) be bb (rw (bd, bf, q) g) ∙ rw (bd, bf)
 
-      end-left : isEnd c ≡ true → isNext c ≡ false → Pend (endOf p a) ≡ frames own p ok a
+      end-left : isEnd c ≡ true → isNext c ≡ false → Pend (endOf p a) ≡ frames own p a
       unfolding endOf
       end-left l h = go (leb (a .depth) 1) refl (ltb 1 (top a .runs)) refl
         where
@@ -173,9 +174,9 @@ module _ (p : Program) (ok : Accepted p) (s : State) (i : ℕ) (a : Activity) (s
           nb = standing (rw q h)
 
           go : (y : Bool) → leb (a .depth) 1 ≡ y → (z : Bool) → ltb 1 (top a .runs) ≡ z
-              → pend own p ok late (cond y (stopped a Ended) (cond z (again a) (popped p a))) ≡ frames own p ok a
+              → pend own p late (cond y (stopped a Ended) (cond z (again a) (popped p a))) ≡ frames own p a
           go true d z r =
-              pend-ended own p ok late (stopped a Ended) refl ∙ sym (end-pend own p ok a st (omega (arith, leb-true (a .depth) 1 d, st .deep)) last)
+              pend-ended own p late (stopped a Ended) refl ∙ sym (end-pend own p ok a st (omega (arith, leb-true (a .depth) 1 d, st .deep)) last)
           go false d true r = again-pend own p ok late a st u nb (ltb-true 1 (top a .runs) r) last
           go false d false r = pop-pend own p ok late a st (leb-false (a .depth) 1 d) u nb (ltb-false 1 (top a .runs) r) last
 
@@ -184,22 +185,22 @@ module _ (p : Program) (ok : Accepted p) (s : State) (i : ℕ) (a : Activity) (s
       unfolding nextOf spent cost isEnd isNext opcode times names rowOf rowAt rows frames
       next-spends z l true h =
           let x = past-left (withHolds a Running (map pass (a .holds))) refl refl refl refl (rw z) in
-          let y = pend-met own p ok late a u h in
+          let y = pend-met own p late a u h in
           omega arith
       next-spends z l false h =
-          let x : pend own p ok late a ≡ frames own p ok a + (own Next + 0 * tally own p (named Next))
-          = pend-running own p ok late a u h ∙ ap (λ o. frames own p ok a + cost own (tally own p) o) (q ∙ z) in
-          let y : pend own p ok late (withHolds a AtBarrier (map quiesce (a .holds))) ≡ frames own p ok (withHolds a AtBarrier (map quiesce (a .holds))) + late = pend-met own p ok late (withHolds a AtBarrier (map quiesce (a .holds))) refl refl in
-          let w : frames own p ok (withHolds a AtBarrier (map quiesce (a .holds))) ≡ frames own p ok a = same in
+          let x : pend own p late a ≡ frames own p a + (own Next + 0 * tally own p (named Next))
+          = pend-running own p late a u h ∙ ap (λ o. frames own p a + cost own (tally own p) o) (q ∙ z) in
+          let y : pend own p late (withHolds a AtBarrier (map quiesce (a .holds))) ≡ frames own p (withHolds a AtBarrier (map quiesce (a .holds))) + late = pend-met own p late (withHolds a AtBarrier (map quiesce (a .holds))) refl refl in
+          let w : frames own p (withHolds a AtBarrier (map quiesce (a .holds))) ≡ frames own p a = same in
           let v = zero-mul (tally own p (named Next)) in
           rw z (omega arith)
         where
-          same : frames own p ok (withHolds a AtBarrier (map quiesce (a .holds))) ≡ frames own p ok a
+          same : frames own p (withHolds a AtBarrier (map quiesce (a .holds))) ≡ frames own p a
           same = refl
 
       -- A step without a fault lowers what is pending by its weight.
       pub spends : late ≤ own Next → {x : Effect} → Kind p (envOf s) i a c x
-          → Pend a ≡ spent own late c (isAtBarrier (a .status)) + Pend (x .self) + pendChild own p ok late (x .spawned)
+          → Pend a ≡ spent own late c (isAtBarrier (a .status)) + Pend (x .self) + pendChild own p late (x .spawned)
       unfolding cost isEnd isNext opcode times names named rowOf rowAt rows operandsOf pendChild child
       spends l {x} (ends z xs n) =
           let y = end-left (rw z) (rw z) in
@@ -246,5 +247,5 @@ module _ (p : Program) (ok : Accepted p) (s : State) (i : ℕ) (a : Activity) (s
           let b = standing (rw q n) in
           let y = past-left a refl refl b u g in
           let x = before n in
-          let r = pend-running own p ok late (past p a) u b in
+          let r = pend-running own p late (past p a) u b in
           omega (arith, w c, w (here p (top (past p a)) .command))

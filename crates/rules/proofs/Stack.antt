@@ -16,7 +16,7 @@ use Rattle.program.specs.Bodies.{Program}
 use Rattle.program.proofs.Shape.{Accepted}
 use Rattle.rules.specs.State.{frame, noFrame, noFrames, top}
 use Rattle.rules.specs.Tree.{here, isFinish}
-use Rattle.rules.specs.Effects.{past, again, pushed, withFrames, popped}
+use Rattle.rules.specs.Effects.{withFrames, past, again, pushed, popped}
 use Rattle.rules.proofs.Tree.{Open}
 use Rattle.rules.proofs.Bodies.{Placed, placed-begun, moved, placed-on, onward}
 
@@ -34,6 +34,18 @@ pub record Stack (p : Program) (n : ℕ) (fs : List Frame) : Type 0 where
 -- The stack of a spawned activity.
 abbrev pub lone : Frame → List Frame
 lone f = set noFrames 0 f
+
+-- The top frame of a body that runs again.
+unfoldable pub rerun : Activity → Frame
+rerun a = record { offset = 0; body = top a .body; runs = top a .runs - 1; first = top a .first }
+
+-- The frame of a body that begins.
+unfoldable pub begins : ℕ → ℕ → ℕ → Frame
+begins b n c = record { offset = 0; body = b; runs = n; first = c }
+
+-- An activity whose top body is gone, before the one below goes on.
+unfoldable pub left : Activity → Activity
+left a = withFrames a (a .depth - 1) (set (a .frames) (a .depth - 1) noFrame)
 
 module _ (p : Program) (ok : Accepted p) where
   -- LISTS OF FRAMES
@@ -172,12 +184,9 @@ module _ (p : Program) (ok : Accepted p) where
     past-open j o = frames-open a (past p a) refl past-under (ap (λ f. f .first) past-top) j o
 
     -- Again.
-    unfoldable pub rerun : Frame
-    rerun = record { offset = 0; body = top a .body; runs = top a .runs - 1; first = top a .first }
-
-    pub again-top : top (again a) ≡ rerun
+    pub again-top : top (again a) ≡ rerun a
     unfolding again rerun
-    again-top = getD-set-same (a .frames) (a .depth - 1) rerun noFrame room
+    again-top = getD-set-same (a .frames) (a .depth - 1) (rerun a) noFrame room
 
     pub again-under : (d : ℕ) → d < a .depth - 1 → frame (again a) d ≡ frame a d
     unfolding again
@@ -186,7 +195,7 @@ module _ (p : Program) (ok : Accepted p) where
     pub again-stack : 1 < top a .runs → Stack p (again a .depth) (again a .frames)
     unfolding again rerun
     again-stack l =
-        stack-set (a .depth) (a .frames) rerun s (placed-begun p ok rerun (place .listed) refl) refl
+        stack-set (a .depth) (a .frames) (rerun a) s (placed-begun p ok (rerun a) (place .listed) refl) refl
         (λ e. absurd (omega (arith, subst (λ n. frameAt (a .frames) (n - 1) .runs ≡ 0) (sym e) (s .bottom), l)))
 
     pub again-open : (j : ℕ) → Open p (again a .depth) (again a .frames) j → Open p (a .depth) (a .frames) j
@@ -195,18 +204,15 @@ module _ (p : Program) (ok : Accepted p) where
 
     -- A body begun.
     module _ (b n c : ℕ) (lo : top a .body < b) (hi : b < length p) where
-      unfoldable pub begins : Frame
-      begins = record { offset = 0; body = b; runs = n; first = c }
-
       space : a .depth < 16
       space = omega (arith, ok .few, climb, s .deep)
 
       over : a .depth + 1 - 1 ≡ a .depth
       over = omega arith
 
-      pub push-top : top (pushed a b n c) ≡ begins
+      pub push-top : top (pushed a b n c) ≡ begins b n c
       unfolding pushed begins
-      push-top = ap (λ n. getD (set (a .frames) (a .depth) begins) n noFrame) over ∙ getD-set-same (a .frames) (a .depth) begins noFrame (omega (arith, s .sixteen, space))
+      push-top = ap (λ d. getD (set (a .frames) (a .depth) (begins b n c)) d noFrame) over ∙ getD-set-same (a .frames) (a .depth) (begins b n c) noFrame (omega (arith, s .sixteen, space))
 
       pub push-under : (d : ℕ) → d < a .depth → frame (pushed a b n c) d ≡ frame a d
       unfolding pushed
@@ -214,7 +220,7 @@ module _ (p : Program) (ok : Accepted p) where
 
       pub push-stack : isEnd (here p (top a) .command) ≡ false → Stack p (pushed a b n c .depth) (pushed a b n c .frames)
       unfolding pushed begins
-      push-stack g = stack-push (a .depth) (a .frames) begins s space (placed-begun p ok begins hi refl) g (omega (arith, climb, s .deep))
+      push-stack g = stack-push (a .depth) (a .frames) (begins b n c) s space (placed-begun p ok (begins b n c) hi refl) g (omega (arith, climb, s .deep))
 
       pub push-open : (j : ℕ) → Open p (pushed a b n c .depth) (pushed a b n c .frames) j
           → (Open p (a .depth) (a .frames) j) ⊎ ((isFinish (here p (top a) .command) ≡ true) × (c ≡ j))
@@ -241,25 +247,22 @@ module _ (p : Program) (ok : Accepted p) where
 
     -- A body left: what remains before it goes on.
     module _ (deep : 1 < a .depth) where
-      unfoldable pub left : Activity
-      left = withFrames a (a .depth - 1) (set (a .frames) (a .depth - 1) noFrame)
-
-      pub left-stack : Stack p (left .depth) (left .frames)
+      pub left-stack : Stack p (left a .depth) (left a .frames)
       unfolding left
       left-stack = stack-pop (a .depth) (a .frames) deep s
 
-      pub left-under : (d : ℕ) → d < a .depth - 1 → frame left d ≡ frame a d
+      pub left-under : (d : ℕ) → d < a .depth - 1 → frame (left a) d ≡ frame a d
       unfolding left
       left-under d l = getD-set-other (a .frames) (a .depth - 1) d noFrame noFrame (λ e. omega arith)
 
-      left-top : top left ≡ frame a (a .depth - 2)
+      left-top : top (left a) ≡ frame a (a .depth - 2)
       unfolding left
       left-top = left-under (a .depth - 1 - 1) (omega arith) ∙ ap (λ n. frame a n) (omega arith)
 
-      pub left-goes : isEnd (here p (top left) .command) ≡ false
+      pub left-goes : isEnd (here p (top (left a)) .command) ≡ false
       left-goes = subst (λ f. isEnd (here p f .command) ≡ false) (sym left-top) (s .ran (a .depth - 2) (omega arith))
 
-      left-open : (j : ℕ) → Open p (left .depth) (left .frames) j → Open p (a .depth) (a .frames) j
+      left-open : (j : ℕ) → Open p (left a .depth) (left a .frames) j → Open p (a .depth) (a .frames) j
       unfolding left
       left-open j o =
           record {
@@ -271,9 +274,9 @@ module _ (p : Program) (ok : Accepted p) where
 
   pub pop-stack : (a : Activity) → Stack p (a .depth) (a .frames) → 1 < a .depth → Stack p (popped p a .depth) (popped p a .frames)
   unfolding popped left
-  pop-stack a s l = past-stack (left a s l) (left-stack a s l) (left-goes a s l)
+  pop-stack a s l = past-stack (left a) (left-stack a s l) (left-goes a s l)
 
   pub pop-open : (a : Activity) → Stack p (a .depth) (a .frames) → 1 < a .depth → (j : ℕ) → Open p (popped p a .depth) (popped p a .frames) j
       → Open p (a .depth) (a .frames) j
   unfolding popped left
-  pop-open a s l j o = left-open a s l j (past-open (left a s l) (left-stack a s l) j o)
+  pop-open a s l j o = left-open a s l j (past-open (left a) (left-stack a s l) j o)

@@ -9,7 +9,7 @@ use Rattle.rules.specs.declared.state.Activity.{Activity}
 use Rattle.program.specs.Bodies.{Program}
 use Rattle.program.specs.Count.{tally, workOf, activitiesOf, clocksOf, accumulatorsOf, ownActivities, ownClocks, ownAccumulators, ownWork}
 use Rattle.program.proofs.Shape.{Accepted}
-use Rattle.rules.specs.State.{noActivity, noFrames, noFrame, act, absent, isEnded, isAtBarrier, top}
+use Rattle.rules.specs.State.{noActivity, noFrame, noFrames, act, absent, isEnded, isAtBarrier, top}
 use Rattle.rules.specs.Clocks.{holds, isHeld}
 use Rattle.rules.specs.Tree.{here}
 use Rattle.rules.specs.Effects.{withFrames}
@@ -74,11 +74,11 @@ module _ (p : Program) (ok : Accepted p) where
       }
 
   -- All is pending.
-  pub start-total : (own : Command → ℕ) (late : ℕ) → total own p ok late startState ≡ tally own p 0
+  pub start-total : (own : Command → ℕ) (late : ℕ) → total own p late startState ≡ tally own p 0
   unfolding total sumBelow
   start-total own late = let q = lone-pend own p ok late (withFrames noActivity 1 noFrames) noFrame refl refl refl (ok .some) refl refl in omega arith
 
-  pub start-reached : Reached p ok startState
+  pub start-reached : Reached p startState
   unfolding workOf activitiesOf clocksOf accumulatorsOf
   start-reached =
       record {
