@@ -28,13 +28,16 @@ from-cases x l at = go (decide (eqb (x .offset) at))
     go (inl e) = inl (eqb-true _ _ e, rw e)
     go (inr e) = inr (eqb-false _ _ e, rw e)
 
+-- A body without commands has none.
 nil-cons : (x : Located) (r : Body) → [] ≡ x ∷ r → ⊥
 nil-cons x r e = let z : _≡_ {A = ℕ} 0 1 = cc in omega arith
 
+-- Each command has a byte at least.
 stride-some : (x : Located) → 0 < stride x
 unfolding stride width
 stride-some x = omega arith
 
+-- A place past the first command is looked for after it.
 from-later : (z : Located) (l : Body) (at : ℕ) → z .offset < at → from (z ∷ l) at ≡ from l at
 from-later z l at h = go (from-cases z l at)
   where
@@ -42,6 +45,7 @@ from-later z l at h = go (from-cases z l at)
     go (inl q) = absurd (omega (arith, q .0))
     go (inr q) = q .1
 
+-- A body from its first command is the whole.
 pub from-here : (z : Located) (l : Body) → from (z ∷ l) (z .offset) ≡ z ∷ l
 from-here z l = go (from-cases z l (z .offset))
   where
@@ -129,6 +133,7 @@ abbrev pub moved : Program → Frame → Frame
 moved p f = record { offset = nextOffset p f; body = f .body; runs = f .runs; first = f .first }
 
 module _ (p : Program) (ok : Accepted p) where
+  -- What is left of a frame's body is shaped.
   shape-of : (f : Frame) (q : Placed p f) → Shaped (length p) (f .body) (q .item ∷ q .more)
   unfolding rest
   shape-of f q = from-shaped (length p) (f .body) (getD p (f .body) []) (f .offset) (q .item) (q .more) (ok .shaped (f .body) (q .listed)) (q .found) .0
@@ -170,9 +175,11 @@ module _ (p : Program) (ok : Accepted p) where
       let at : g .offset ≡ o .next .offset = a ∙ ap (λ l. headOf (tailOf l) .offset) (o .found) in
       rw (b, at) (from-next (length p) (f .body) (getD p (f .body) []) (f .offset) (o .item) (o .next) (o .more) (ok .shaped (f .body) (q .listed)) (o .found))
 
+  -- The frame after its command stands on one.
   pub placed-on : (f : Frame) → Placed p f → Onward p f → Placed p (moved p f)
   placed-on f q o = record { listed = q .listed; item = o .next; more = o .more; found = moved-rest f q o (moved p f) refl refl }
 
+  -- Each body of an accepted program has one.
   pub begin : (b : ℕ) → b < length p → Begun p b
   unfolding Shaped
   begin b l = go (getD p b []) refl (ok .shaped b l) (ok .first b l)
@@ -186,5 +193,6 @@ module _ (p : Program) (ok : Accepted p) where
   unfolding rest
   begun-rest f b e = rw (e, b .whole) (subst (λ k. from (b .head ∷ b .more) k ≡ b .head ∷ b .more) (b .zero) (from-here (b .head) (b .more)))
 
+  -- A frame at offset 0 stands on its body's first command.
   pub placed-begun : (f : Frame) → f .body < length p → f .offset ≡ 0 → Placed p f
   placed-begun f l e = let b = begin (f .body) l in record { listed = l; item = b .head; more = b .more; found = begun-rest f b e }

@@ -25,9 +25,11 @@ use Rattle.rules.proofs.Tests.{decide, true-false}
 use Rattle.rules.proofs.Shapes.{Kind, ends, meets, forks, opens, loops, moves}
 use Rattle.rules.specs.declared.answer.Answer.the-variants.{Refused, Accepted}
 
+-- A call turned down leaves the state.
 abbrev pub turnedDown : Program → State → ℕ → Stepped
 turnedDown p s i = stepped (Refused (refusal p s i)) s
 
+-- A step taken answers with the activity's status after it.
 abbrev pub takenAs : State → ℕ → Effect → Stepped
 takenAs s i e = stepped (Accepted (e .self .status)) (applied s i e)
 
@@ -43,10 +45,12 @@ refusal-range p s i = go (ltb i (s .activities)) (ended s i) (waits p s i)
     go true false false h = absurd (h refl)
     go false b c h = (omega arith, omega arith)
 
+-- Numbers 14 to 16.
 pub advance-refused : (l : Limits) (p : Program) (s : State) (i : ℕ) → (refusal p s i ≡ 0 → ⊥) → advance l p s i ≡ turnedDown p s i
 unfolding advance
 advance-refused l p s i h = rw (ne-eqb _ _ h)
 
+-- A step within the limits.
 pub advance-taken : (l : Limits) (p : Program) (s : State) (i : ℕ) → refusal p s i ≡ 0 → exceeds l p s (effect p s i) ≡ false → advance l p s i ≡ takenAs s i (effect p s i)
 unfolding advance
 advance-taken l p s i h e = rw (eq-eqb _ _ h, e)
@@ -57,10 +61,12 @@ pub step-advance : (l : Limits) (t : List ℕ) (s : State) (i : ℕ) → numberO
 unfolding step stepWith unfit
 step-advance l t s i n w = rw (n, w)
 
+-- Numbers 1 to 13 do not apply there.
 pub unfit-none : (l : Limits) (t : List ℕ) (s : State) → numberOf (l .work) t ≡ 0 → wellFormed (l .phase) (programOf t) s ≡ true → unfit l (numberOf (l .work) t) (programOf t) s ≡ 0
 unfolding unfit
 unfit-none l t s n w = rw (n, w)
 
+-- The start of an accepted table.
 pub start-taken : (l : Limits) (t : List ℕ) → numberOf (l .work) t ≡ 0 → start l t .state ≡ startState
 unfolding start startWith
 start-taken l t n = rw n
@@ -83,6 +89,7 @@ unfaulted AtBarrier e = refl
 unfaulted Ended e = absurd (true-false true refl e)
 unfaulted (Faulted f) e = absurd (true-false true refl e)
 
+-- By the kind of the command.
 pub no-fault : {p : Program} {e : Env} {i : ℕ} {a : Activity} {c : Command} {x : Effect} → isEnded (a .status) ≡ false → Kind p e i a c x
     → isFault (Accepted (x .self .status)) ≡ false
 unfolding past pushed endOf again popped nextOf

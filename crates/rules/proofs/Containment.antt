@@ -56,6 +56,7 @@ pub data Was (p : Program) (s : State) (a : Activity) (e : Effect) (j : ℕ) : T
   open-before : Open p (a .depth) (a .frames) j → Was p s a e j
   begun-now : j ≡ s .activities → e .spawned ≡ nobody → Was p s a e j
 
+-- What is open after an effect was open, or has begun now.
 unfoldable pub Opening : Program → State → Activity → Effect → Type 0
 Opening p s a e = isEnded (e .self .status) ≡ false → (j : ℕ) → Open p (e .self .depth) (e .self .frames) j → Was p s a e j
 
@@ -78,6 +79,7 @@ module _ (p : Program) (s : State) (i : ℕ) (e : Effect) (n : Nested p s) (o : 
       go (yes q) = rw (q, act-self s (n .bounded) i (o .present) e (o .fits)) (sym (o .same-spawner))
       go (no q) = rw (act-old s i e y l q)
 
+  -- Of those who were there, the same are inside.
   pub inside-old : (w j x : ℕ) → x < s .activities → inside s w j x ≡ inside (applied s i e) w j x
   unfolding inside
   inside-old w j x l =
@@ -85,6 +87,7 @@ module _ (p : Program) (s : State) (i : ℕ) (e : Effect) (n : Nested p s) (o : 
       (λ y m v. let q = links y (omega arith) in (q, refl, n .falls y (omega arith) (omega arith)))
       (omega (arith, n .bounded .count)) (omega (arith, n .bounded .count))
 
+  -- Spawners still fall.
   pub falls′ : (y : ℕ) → 0 < y → y < applied s i e .activities → act (applied s i e) y .spawner < y
   falls′ y p l =
       each s (n .bounded) i (o .present) e (o .fits) (λ x a. 0 < x → a .spawner < x) (λ x m q r. n .falls x r m)
@@ -93,21 +96,26 @@ module _ (p : Program) (s : State) (i : ℕ) (e : Effect) (n : Nested p s) (o : 
       y l p
 
   module _ (c : Activity) (q : e .spawned ≡ one c) where
+    -- There is room for it.
     room : s .activities < 64
     unfolding Fits
     room = rw q at (o .fits)
 
+    -- What is known of it.
     its : Born p i (act s i) c
     unfolding OfChild
     its = rw q at (o .child)
 
+    -- It has the next number.
     is-child : act (applied s i e) (s .activities) ≡ c
     is-child = act-child s (n .bounded) i e c q room
 
+    -- And is counted.
     more : s .activities < applied s i e .activities
     unfolding applied
     more = rw q (omega arith)
 
+    -- Its spawner is the activity that stepped.
     spawner-of : spawnerOf (applied s i e) (s .activities) ≡ i
     spawner-of = ap (λ a. a .spawner) is-child ∙ its .spawner
 
@@ -122,6 +130,7 @@ module _ (p : Program) (s : State) (i : ℕ) (e : Effect) (n : Nested p s) (o : 
         go (inl r) = inl (sym (r .0) ∙ spawner-of, leb-true _ _ (r .1))
         go (inr r) = inr (inside-old w j i (o .present) ∙ subst (λ x. chain (spawnerOf (applied s i e)) (leb j) w 64 x ≡ true) spawner-of r)
 
+    -- It is inside whatever its spawner is inside.
     child-inside-on : (w j : ℕ) → inside s w j i ≡ true → inside (applied s i e) w j (s .activities) ≡ true
     unfolding inside
     child-inside-on w j h =
@@ -139,10 +148,12 @@ module _ (p : Program) (s : State) (i : ℕ) (e : Effect) (n : Nested p s) (o : 
     to : (w j : ℕ) → (w ≡ i → Was p s (act s i) e j) → inside (applied s i e) w j x ≡ true → inside s w j rep ≡ true
     from : (w j : ℕ) → inside s w j rep ≡ true → inside (applied s i e) w j x ≡ true
 
+  -- Or it is the maker of the new clock.
   data Holder (x k : ℕ) : Type 0 where
     stood : Rep x k → Holder x k
     maker : x ≡ i → hold (act (applied s i e) x) k .clock ≡ s .clocks → Holder x k
 
+  -- Of the activity that stepped.
   holder-self : (k : ℕ) → holds (act (applied s i e) i) k ≡ true → Holder i k
   holder-self k h = go (o .holdings k (rw me at h))
     where
@@ -154,6 +165,7 @@ module _ (p : Program) (s : State) (i : ℕ) (e : Effect) (n : Nested p s) (o : 
           stood (record { rep = i; there = o .present; slot = k′; has = g; same = rw me q; to = λ w j f r. inside-old w j i (o .present) ∙ r; from = λ w j r. sym (inside-old w j i (o .present)) ∙ r })
       go (fresh q) = maker refl (rw me q)
 
+  -- Of another that was there.
   holder-old : (x k : ℕ) → x < s .activities → (x ≡ i → ⊥) → holds (act (applied s i e) x) k ≡ true → Holder x k
   holder-old x k l d h =
       stood (record { rep = x; there = l; slot = k; has = rw old at h; same = rw old; to = λ w j f r. inside-old w j x l ∙ r; from = λ w j r. sym (inside-old w j x l) ∙ r })
@@ -161,6 +173,7 @@ module _ (p : Program) (s : State) (i : ℕ) (e : Effect) (n : Nested p s) (o : 
       old : act (applied s i e) x ≡ act s x
       old = act-old s i e x l d
 
+  -- Of the one spawned: its spawner stands for it.
   holder-child : (c : Activity) → e .spawned ≡ one c → (k : ℕ) → holds (act (applied s i e) (s .activities)) k ≡ true → Holder (s .activities) k
   holder-child c q k h =
       let g = its c q .lent k (rw (is-child c q) at h) in
@@ -175,6 +188,7 @@ module _ (p : Program) (s : State) (i : ℕ) (e : Effect) (n : Nested p s) (o : 
           out (begun-now m u) = let v : nobody ≡ one c = sym u ∙ q in let k : _≡_ {A = ℕ} 0 1 = cc in omega arith
       into w j f z (inr r) = r
 
+  -- Of each.
   holder : (x k : ℕ) → x < applied s i e .activities → holds (act (applied s i e) x) k ≡ true → Holder x k
   holder x k l h = go (who s i e x l)
     where
@@ -183,6 +197,7 @@ module _ (p : Program) (s : State) (i : ℕ) (e : Effect) (n : Nested p s) (o : 
       go (elder m d) = holder-old x k m d h
       go (newborn c q f) = rw f (holder-child c q k (rw f at h))
 
+  -- Two holders after the step, for a finish that was open or has begun now.
   core : (w j : ℕ) → w < s .activities → ended s w ≡ false → Was p s (act s w) e j → (w ≡ i → Was p s (act s i) e j) → (x k y l : ℕ)
       → x < applied s i e .activities → y < applied s i e .activities → holds (act (applied s i e) x) k ≡ true → holds (act (applied s i e) y) l ≡ true
       → hold (act (applied s i e) y) l .clock ≡ hold (act (applied s i e) x) k .clock → inside (applied s i e) w j x ≡ true
@@ -247,6 +262,7 @@ module _ (p : Program) (s : State) (i : ℕ) (e : Effect) (n : Nested p s) (o : 
 
 -- WHAT A COMMAND ASKS AND GIVES
 
+-- What a step makes of a hold: one that was there, or of the new clock.
 held-became : (made : ℕ) (a : Activity) (k : ℕ) (h : Hold) → Became made (hold a k) h → isHeld (h .registration) ≡ true → Held made a h
 held-became made a k h (unchanged q) e = before k (rw q at e) (ap (λ h. h .clock) (sym q))
 held-became made a k h (vacated q) e = absurd (true-false false (rw q at e) refl)
@@ -254,6 +270,7 @@ held-became made a k h (quieted q) e = before k (held-quiesced (hold a k .regist
 held-became made a k h (raised q) e = before k (held-revived (hold a k .registration) (rw q at e)) (ap (λ h. h .clock) (sym q))
 held-became made a k h (begun q) e = fresh (ap (λ h. h .clock) q)
 
+-- The same of all holds.
 pub held-turned : (made : ℕ) (a b : Activity) → Turned made (a .holds) (b .holds) → (k : ℕ) → holds b k ≡ true → Held made a (hold b k)
 unfolding Turned
 held-turned made a b t k = held-became made a k (hold b k) (t k)

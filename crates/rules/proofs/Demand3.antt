@@ -23,12 +23,12 @@ use Rattle.rules.specs.Faults.{bit}
 use Rattle.rules.specs.Effects.{applied, envOf}
 use Rattle.rules.specs.WellFormed.{wellFormed}
 use Rattle.rules.specs.Steps.{Limits, startState, at, refusal, exceeds, effect, step, fault, ready, canStep, waits}
-use Rattle.rules.specs.Runs.{taken, run, runFrom, answers, answersFrom, isAccepted, isFault, someFault, finished}
+use Rattle.rules.specs.Runs.{taken, run, runFrom, answersFrom, answers, isAccepted, isFault, someFault, finished}
 use Rattle.rules.specs.Demand3.{isOfRun, allOfRun, Demand3}
 use Rattle.rules.proofs.Tests.{decide, cond-zero, and-intro, true-false}
 use Rattle.rules.proofs.Search.{allBelow-intro, allBelow-at}
 use Rattle.rules.proofs.Sums.{sumBelow, sumBelow-same}
-use Rattle.rules.proofs.Bits.{bits-zero, bits-none, bit-passes}
+use Rattle.rules.proofs.ReadyBits.{bits-zero, bits-none, bit-passes}
 use Rattle.rules.proofs.Sized.{Sized}
 use Rattle.rules.proofs.Shapes.{kind}
 use Rattle.rules.proofs.Applied.{steps-applied, clocks-applied}
@@ -38,7 +38,7 @@ use Rattle.rules.proofs.Start.{start-reached, start-total}
 use Rattle.rules.proofs.Calls.{turnedDown, takenAs, step-advance, advance-taken, advance-refused, refusal-range, no-fault, unfit-none, refused-waits, start-taken}
 
 -- What is proved of well-formedness elsewhere: the start state has it, and a step within the limits keeps it.
-pub record Persists (l : Limits) : Type 0 where
+pub record StaysFit (l : Limits) : Type 0 where
   pub starts : (p : Program) → Accepted p → wellFormed (l .phase) p startState ≡ true
   pub keeps : (p : Program) (s : State) (i : ℕ) → Accepted p → Sized s → wellFormed (l .phase) p s ≡ true → refusal p s i ≡ 0
       → exceeds l p s (effect p s i) ≡ false → wellFormed (l .phase) p (applied s i (effect p s i)) ≡ true
@@ -88,10 +88,12 @@ unfoldable pub Account : Program → Bool → State → Type 0
 Account p false s = s .steps + total ownWork p 1 s ≡ workOf p
 Account p true s = s .steps + total ownWork p 1 s < workOf p
 
-module _ (l : Limits) (t : List ℕ) (w : l .work ≤ l .phase) (ok : Accepted (programOf t)) (n : numberOf (l .work) t ≡ 0) (persists : Persists l) where
+module _ (l : Limits) (t : List ℕ) (w : l .work ≤ l .phase) (ok : Accepted (programOf t)) (n : numberOf (l .work) t ≡ 0) (fitness : StaysFit l) where
+  -- The table's program.
   abbrev p : Program
   p = programOf t
 
+  -- It is within the limits.
   limits : Within l p
   limits = within l t w n
 
@@ -101,6 +103,7 @@ module _ (l : Limits) (t : List ℕ) (w : l .work ≤ l .phase) (ok : Accepted (
   pub taking : (s : State) → Good l t s → (i : ℕ) → refusal p s i ≡ 0 → step l t s i ≡ takenAs s i (effect p s i)
   taking s g i r = step-advance l t s i n (g .fit) ∙ advance-taken l p s i r (never-exceeds l p ok limits s (g .reached) i r)
 
+  -- Each call is one of the three.
   pub call : (s : State) → Good l t s → (i : ℕ) → Call l t s i
   call s g i = go (ℕ-discrete (refusal p s i) 0) (ℕ-discrete (fault p s i) 0)
     where
@@ -114,9 +117,10 @@ module _ (l : Limits) (t : List ℕ) (w : l .work ≤ l .phase) (ok : Accepted (
   good-taken s g i r =
       record {
         reached = reached-step p ok (limits .activities) s (g .reached) i r;
-        fit = persists .keeps p s i ok (g .reached .inv .bounded .sized) (g .fit) r (never-exceeds l p ok limits s (g .reached) i r);
+        fit = fitness .keeps p s i ok (g .reached .inv .bounded .sized) (g .fit) r (never-exceeds l p ok limits s (g .reached) i r);
       }
 
+  -- A call leads from a good state to a good state.
   pub good-step : (s : State) → Good l t s → (i : ℕ) → Good l t (step l t s i .state)
   good-step s g i = go (ℕ-discrete (refusal p s i) 0)
     where
@@ -124,16 +128,19 @@ module _ (l : Limits) (t : List ℕ) (w : l .work ≤ l .phase) (ok : Accepted (
       go (no r) = subst (λ x. Good l t (x .state)) (sym (step-advance l t s i n (g .fit) ∙ advance-refused l p s i r)) g
       go (yes r) = subst (λ x. Good l t (x .state)) (sym (taking s g i r)) (good-taken s g i r)
 
+  -- So does a list of calls.
   pub good-run : (order : List ℕ) (s : State) → Good l t s → Good l t (runFrom l t s order)
   unfolding runFrom
   good-run [] s g = g
   good-run (i ∷ order) s g = good-run order (step l t s i .state) (good-step s g i)
 
+  -- The start state is good.
   pub good-start : Good l t startState
-  good-start = record { reached = start-reached p ok; fit = persists .starts p ok }
+  good-start = record { reached = start-reached p ok; fit = fitness .starts p ok }
 
   -- ANSWERS
 
+  -- A call's answer is one of a run's.
   of-run : (s : State) → Good l t s → (i : ℕ) → isOfRun (step l t s i .answer) ≡ true
   of-run s g i = go (call s g i)
     where
@@ -144,11 +151,13 @@ module _ (l : Limits) (t : List ℕ) (w : l .work ≤ l .phase) (ok : Accepted (
       go (accepted r f e) = subst (λ x. isOfRun (x .answer) ≡ true) (sym e) refl
       go (faulted r f e) = subst (λ x. isOfRun (x .answer) ≡ true) (sym e) refl
 
+  -- And so is each of a list.
   all-of-run : (order : List ℕ) (s : State) → Good l t s → allOfRun (answersFrom l t s order) ≡ true
   unfolding answersFrom allOfRun
   all-of-run [] s g = refl
   all-of-run (i ∷ order) s g = and-intro _ _ (of-run s g i) (all-of-run order (step l t s i .state) (good-step s g i))
 
+  -- The steps taken rise with an accepted call, and only then.
   steps-step : (s : State) → Good l t s → (i : ℕ) → step l t s i .state .steps ≡ s .steps + cond (isAccepted (step l t s i .answer)) 1 0
   steps-step s g i = go (call s g i)
     where
@@ -160,6 +169,7 @@ module _ (l : Limits) (t : List ℕ) (w : l .work ≤ l .phase) (ok : Accepted (
       go (accepted r f e) = subst P (sym e) (steps-applied s i (doing p s i))
       go (faulted r f e) = subst P (sym e) (steps-applied s i (failed p s i))
 
+  -- And count the accepted ones of a list.
   steps-run : (order : List ℕ) (s : State) → Good l t s → runFrom l t s order .steps ≡ s .steps + taken (answersFrom l t s order)
   unfolding runFrom answersFrom taken
   steps-run [] s g = omega arith
@@ -167,6 +177,7 @@ module _ (l : Limits) (t : List ℕ) (w : l .work ≤ l .phase) (ok : Accepted (
 
   -- WORK
 
+  -- A call keeps the account.
   account-step : (b : Bool) (s : State) → Good l t s → (i : ℕ) → Account p b s → Account p (b || isFault (step l t s i .answer)) (step l t s i .state)
   unfolding Account
   account-step b s g i a = go (call s g i)
@@ -203,6 +214,7 @@ module _ (l : Limits) (t : List ℕ) (w : l .work ≤ l .phase) (ok : Accepted (
           let m = steps-applied s i (failed p s i) in
           subst P (sym e) (less b (applied s i (failed p s i)) (omega arith) a)
 
+  -- A list of calls keeps it.
   account-run : (b : Bool) (order : List ℕ) (s : State) → Good l t s → Account p b s
       → Account p (b || someFault (answersFrom l t s order)) (runFrom l t s order)
   unfolding runFrom answersFrom someFault
@@ -220,10 +232,12 @@ module _ (l : Limits) (t : List ℕ) (w : l .work ≤ l .phase) (ok : Accepted (
       assoc true b c = refl
       assoc false b c = refl
 
+  -- At the start all is pending.
   start-account : Account p false startState
   unfolding Account workOf
   start-account = omega (arith, start-total p ok ownWork 1)
 
+  -- Where all have ended, nothing is.
   total-ended : (s : State) → ((i : ℕ) → i < s .activities → ended s i ≡ true) → total ownWork p 1 s ≡ 0
   unfolding total sumBelow
   total-ended s h = sumBelow-same (s .activities) _ (λ x. 0) (λ k m. pend-ended ownWork p 1 (act s k) (h k m)) ∙ zeros (s .activities)
@@ -234,6 +248,7 @@ module _ (l : Limits) (t : List ℕ) (w : l .work ≤ l .phase) (ok : Accepted (
 
   -- QUIESCENCE
 
+  -- A clock made stays made.
   made-step : (c : ℕ) (s : State) → Good l t s → (i : ℕ) → c < s .clocks → c < step l t s i .state .clocks
   made-step c s g i h = go (call s g i)
     where
@@ -242,6 +257,7 @@ module _ (l : Limits) (t : List ℕ) (w : l .work ≤ l .phase) (ok : Accepted (
       go (accepted r f e) = subst (λ x. c < x .state .clocks) (sym e) (omega (arith, clocks-applied s i (doing p s i)))
       go (faulted r f e) = subst (λ x. c < x .state .clocks) (sym e) (omega (arith, clocks-applied s i (failed p s i)))
 
+  -- A quiescent phase stays quiescent under a call.
   pub stable-call : (c q : ℕ) (s : State) → Good l t s → (i : ℕ) → c < s .clocks → quiescent s c q ≡ true → quiescent (step l t s i .state) c q ≡ true
   stable-call c q s g i h z = go (ℕ-discrete (refusal p s i) 0)
     where
@@ -250,11 +266,13 @@ module _ (l : Limits) (t : List ℕ) (w : l .work ≤ l .phase) (ok : Accepted (
       go (yes r) =
           subst (λ x. quiescent (x .state) c q ≡ true) (sym (taking s g i r)) (stable-step c q p ok (limits .activities) s (g .reached) i r h z)
 
+  -- And under a list of calls.
   pub stable-run : (c q : ℕ) (order : List ℕ) (s : State) → Good l t s → c < s .clocks → quiescent s c q ≡ true → quiescent (runFrom l t s order) c q ≡ true
   unfolding runFrom
   stable-run c q [] s g h z = z
   stable-run c q (i ∷ order) s g h z = stable-run c q order (step l t s i .state) (good-step s g i) (made-step c s g i h) (stable-call c q s g i h z)
 
+  -- A list after another goes on from its end.
   pub run-append : (before after : List ℕ) (s : State) → runFrom l t s (before ++ after) ≡ runFrom l t (runFrom l t s before) after
   unfolding runFrom
   run-append [] after s = refl
@@ -263,14 +281,17 @@ module _ (l : Limits) (t : List ℕ) (w : l .work ≤ l .phase) (ok : Accepted (
   -- THE READY SET
 
   module _ (s : State) (g : Good l t s) where
+    -- The ready set is given.
     ready-number : ready l t s .number ≡ 0
     unfolding ready
     ready-number = unfit-none l t s n (g .fit)
 
+    -- It has those who can step.
     pub ready-set : ready l t s .set ≡ bitsBelow 64 (canStep p s)
     unfolding ready
     ready-set = rw (unfit-none l t s n (g .fit))
 
+    -- It is empty only when all have ended.
     pub alive : ready l t s .set ≡ 0 → finished s ≡ true
     unfolding finished canStep
     alive e = allBelow-intro (s .activities) (ended s) (never-still p s (g .reached) waiting)
@@ -280,6 +301,7 @@ module _ (l : Limits) (t : List ℕ) (w : l .work ≤ l .phase) (ok : Accepted (
             let z = bits-zero 64 (canStep p s) (sym ready-set ∙ e) i (omega (arith, g .reached .inv .bounded .count)) in
             refused-waits p s i (eqb-false _ _ z) m u
 
+    -- And then it is.
     over : finished s ≡ true → ready l t s .set ≡ 0
     unfolding finished canStep
     over e = ready-set ∙ bits-none 64 (canStep p s) (λ i m. ne-eqb _ _ (stopped-at i))
@@ -287,6 +309,7 @@ module _ (l : Limits) (t : List ℕ) (w : l .work ≤ l .phase) (ok : Accepted (
         stopped-at : (i : ℕ) → refusal p s i ≡ 0 → ⊥
         stopped-at i r = let o = goes p s i r in true-false _ (allBelow-at (s .activities) (ended s) e i (o .there)) (o .runs)
 
+    -- Who is in it can step.
     steps : (i : ℕ) → bit (ready l t s .set) i ≡ true → isAccepted (step l t s i .answer) ≡ true
     unfolding canStep
     steps i b =
@@ -295,10 +318,12 @@ module _ (l : Limits) (t : List ℕ) (w : l .work ≤ l .phase) (ok : Accepted (
 
   -- RUNS
 
+  -- A run goes on from the start state.
   pub run-start : (order : List ℕ) → run l t order ≡ runFrom l t startState order
   unfolding run
   run-start order = ap (λ s. runFrom l t s order) (start-taken l t n)
 
+  -- So do its answers.
   pub answers-start : (order : List ℕ) → answers l t order ≡ answersFrom l t startState order
   unfolding answers
   answers-start order = ap (λ s. answersFrom l t s order) (start-taken l t n)
@@ -307,6 +332,7 @@ module _ (l : Limits) (t : List ℕ) (w : l .work ≤ l .phase) (ok : Accepted (
   pub good-at : (order : List ℕ) → Good l t (run l t order)
   good-at order = rw (run-start order) (good-run order startState good-start)
 
+  -- The state's steps are the number of accepted ones.
   pub counted : (order : List ℕ) → run l t order .steps ≡ taken (answers l t order)
   counted order = rw (run-start order, answers-start order) (omega (arith, steps-run order startState good-start))
 
@@ -314,6 +340,7 @@ module _ (l : Limits) (t : List ℕ) (w : l .work ≤ l .phase) (ok : Accepted (
   pub account : (order : List ℕ) → Account p (someFault (answers l t order)) (run l t order)
   account order = rw (run-start order, answers-start order) (account-run false order startState good-start start-account)
 
+  -- Finished without a fault: the work.
   whole : (order : List ℕ) → finished (run l t order) ≡ true → someFault (answers l t order) ≡ false → taken (answers l t order) ≡ workOf p
   unfolding finished Account
   whole order e f =
@@ -321,12 +348,14 @@ module _ (l : Limits) (t : List ℕ) (w : l .work ≤ l .phase) (ok : Accepted (
       let z = total-ended (run l t order) (allBelow-at (run l t order .activities) (ended (run l t order)) e) in
       omega (arith, counted order)
 
+  -- With a fault: less.
   less : (order : List ℕ) → someFault (answers l t order) ≡ true → taken (answers l t order) < workOf p
   unfolding Account
   less order f =
       let a : run l t order .steps + total ownWork p 1 (run l t order) < workOf p = subst (λ b. Account p b (run l t order)) f (account order) in
       omega (arith, counted order)
 
+  -- Quiescent at a point: quiescent at every later one.
   stable : (before after : List ℕ) (c q : ℕ) → c < run l t before .clocks → quiescent (run l t before) c q ≡ true → quiescent (run l t (before ++ after)) c q ≡ true
   stable before after c q h z =
       subst (λ s. quiescent s c q ≡ true) (sym later) (stable-run c q after (run l t before) (good-at before) h z)
@@ -334,6 +363,7 @@ module _ (l : Limits) (t : List ℕ) (w : l .work ≤ l .phase) (ok : Accepted (
       later : run l t (before ++ after) ≡ runFrom l t (run l t before) after
       later = run-start (before ++ after) ∙ run-append before after startState ∙ ap (λ s. runFrom l t s after) (sym (run-start before))
 
+  -- Demand 3.
   pub demand3 : (order : List ℕ) → Demand3 l t order
   demand3 order =
       record {

@@ -30,6 +30,7 @@ use Rattle.rules.proofs.Shapes.{ends, Replaced, dropped, resumed, creat
 
 -- EACH HOLD OF A LIST
 
+-- A fact of what stands under each name.
 unfoldable pub EachHold : (Hold → Type 0) → List Hold → Type 0
 EachHold P l = (k : ℕ) → P (getD l k noHold)
 
@@ -37,15 +38,18 @@ EachHold P l = (k : ℕ) → P (getD l k noHold)
 pub getD-mapped : (f : Hold → Hold) → f noHold ≡ noHold → (l : List Hold) (k : ℕ) → getD (map f l) k noHold ≡ f (getD l k noHold)
 getD-mapped f e l k = ap (λ d. getD (map f l) k d) (sym e) ∙ List·getD-map f l k noHold
 
+-- An empty array holds nothing.
 pub getD-none : (n k : ℕ) → getD (replicate n noHold) k noHold ≡ noHold
 getD-none zero k = refl
 getD-none (suc n) zero = refl
 getD-none (suc n) (suc k) = getD-none n k
 
+-- All are changed alike.
 pub each-map : (P Q : Hold → Type 0) (f : Hold → Hold) → f noHold ≡ noHold → ((h : Hold) → P h → Q (f h)) → (l : List Hold) → EachHold P l → EachHold Q (map f l)
 unfolding EachHold
 each-map P Q f e g l p k = subst Q (sym (getD-mapped f e l k)) (g (getD l k noHold) (p k))
 
+-- One gets another value.
 pub each-set : (P : Hold → Type 0) (l : List Hold) (j : ℕ) (h : Hold) → P h → EachHold P l → EachHold P (set l j h)
 unfolding EachHold
 each-set P l j h q p k = go (stored l j h k noHold)
@@ -54,6 +58,7 @@ each-set P l j h q p k = go (stored l j h k noHold)
     go (new e v) = subst P (sym v) q
     go (old v) = subst P (sym v) (p k)
 
+-- None is held.
 pub each-none : (P : Hold → Type 0) → P noHold → (n : ℕ) → EachHold P (replicate n noHold)
 unfolding EachHold
 each-none P q n k = subst P (sym (getD-none n k)) q
@@ -88,11 +93,13 @@ lent-held m j (x ∷ l) (suc k) h =
     let z : j + suc k ≡ suc j + k = omega arith in
     (omega (arith, r .0), rw z (r .1), r .2)
 
+-- Quiescing takes nothing up.
 pub held-quiesced : (r : Registration) → isHeld (quiesced r) ≡ true → isHeld r ≡ true
 held-quiesced Free e = e
 held-quiesced Live e = refl
 held-quiesced Quiesced e = refl
 
+-- Nor does passing.
 pub held-revived : (r : Registration) → isHeld (revived r) ≡ true → isHeld r ≡ true
 held-revived Free e = e
 held-revived Live e = refl
@@ -111,6 +118,7 @@ pub record Lends (p : Program) (a : Activity) (m : ℕ) : Type 0 where
   pub held : (k : ℕ) → k < 8 → bit m k ≡ true → holds a k ≡ true
   pub live : (k : ℕ) → k < 8 → bit m k ≡ true → isLive (hold a k .registration) ≡ true
 
+-- F3, F1 and F2 are tried and not met.
 pub lends : (p : Program) (e : Env) (i : ℕ) (a : Activity) (b m : ℕ) → faultFor p e i a (Async b m) ≡ 0 → Lends p a m
 unfolding faultFor asyncFault lendsUnheld lendsQuiesced
 lends p e i a b m f =
@@ -129,6 +137,7 @@ lends p e i a b m f =
 
 -- WHAT A STEP MAKES OF A HOLD
 
+-- It stays, is gone, is quiesced, passes, or is of a new clock.
 pub data Became (made : ℕ) (h h′ : Hold) : Type 0 where
   unchanged : h′ ≡ h → Became made h h′
   vacated : h′ ≡ noHold → Became made h h′
@@ -136,18 +145,22 @@ pub data Became (made : ℕ) (h h′ : Hold) : Type 0 where
   raised : h′ ≡ pass h → Became made h h′
   begun : h′ ≡ record { phase = 0; clock = made; registration = Live } → Became made h h′
 
+-- The same under each name.
 unfoldable pub Turned : ℕ → List Hold → List Hold → Type 0
 Turned made l l′ = (k : ℕ) → Became made (getD l k noHold) (getD l′ k noHold)
 
 module _ (made : ℕ) (l : List Hold) where
+  -- No hold changes.
   turned-same : Turned made l l
   unfolding Turned
   turned-same k = unchanged refl
 
+  -- All are gone.
   pub turned-none : (n : ℕ) → Turned made l (replicate n noHold)
   unfolding Turned
   turned-none n k = vacated (getD-none n k)
 
+  -- One gets another value.
   turned-set : {clocked : Bool} (n : ℕ) (h : Hold) → Replaced made clocked (getD l n noHold) h → Turned made l (set l n h)
   unfolding Turned
   turned-set {clocked} n h r k = go (stored l n h k noHold) r
@@ -158,10 +171,12 @@ module _ (made : ℕ) (l : List Hold) where
       go (new e v) (created y q) = begun (v ∙ q)
       go (old v) r = unchanged v
 
+  -- One at most.
   turned-held : {clocked : Bool} (l′ : List Hold) → Reheld made clocked l l′ → Turned made l l′
   turned-held l′ (kept q) = rw q turned-same
   turned-held l′ (replaced n h r q) = rw q (turned-set n h r)
 
+-- Each outcome of END.
 turned-end : (p : Program) (made : ℕ) (a : Activity) → Turned made (a .holds) (endOf p a .holds)
 unfolding endOf again popped past
 turned-end p made a = go (leb (a .depth) 1) (ltb 1 (top a .runs))
@@ -171,11 +186,13 @@ turned-end p made a = go (leb (a .depth) 1) (ltb 1 (top a .runs))
     go false true = turned-same made (a .holds)
     go false false = turned-same made (a .holds)
 
+-- Both steps of NEXT.
 turned-next : (p : Program) (made : ℕ) (a : Activity) (b : Bool) → Turned made (a .holds) (nextOf p a b .holds)
 unfolding nextOf past Turned
 turned-next p made a true k = raised (getD-mapped pass refl (a .holds) k)
 turned-next p made a false k = quieted (getD-mapped quiesce refl (a .holds) k)
 
+-- By the kind of the command.
 pub turned : {p : Program} {e : Env} {i : ℕ} {a : Activity} {c : Command} {x : Effect} → Kind p e i a c x → Turned (e .clock) (a .holds) (x .self .holds)
 unfolding past pushed
 turned {p} {e} {i} {a} (ends q s n) = rw s (turned-end p (e .clock) a)

@@ -4,7 +4,7 @@ pub mod Sums
 pub mod Lists
 pub mod Sized
 pub mod Shapes
-pub mod Bits
+pub mod ReadyBits
 pub mod Applied
 pub mod Holders
 pub mod Stable

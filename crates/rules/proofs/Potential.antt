@@ -27,10 +27,12 @@ module _ (own : Command → ℕ) where
   unfoldable pub cost : (ℕ → ℕ) → Command → ℕ
   cost of c = own c + times c * of (named c)
 
+  -- The first command and the rest.
   sum-cons : (of : ℕ → ℕ) (x : Located) (l : Body) → sumOver own of (x ∷ l) ≡ cost of (x .command) + sumOver own of l
   unfolding sumOver cost
   sum-cons of x l = refl
 
+  -- No command costs nothing.
   sum-nil : (of : ℕ → ℕ) → sumOver own of [] ≡ 0
   unfolding sumOver
   sum-nil of = refl
@@ -48,6 +50,7 @@ module _ (own : Command → ℕ) where
       go true e = let q = s .above e in rw (h (named (x .command)) (q .0) (q .1))
       go false e = omega (arith, zero-mul (j (named (x .command))), zero-mul (k (named (x .command))))
 
+  -- The same of a body.
   sum-same : (j k : ℕ → ℕ) (n b : ℕ) (l : Body) → Shaped n b l → ((c : ℕ) → b < c → c < n → j c ≡ k c) → sumOver own j l ≡ sumOver own k l
   unfolding Shaped
   sum-same j k n b [] s h = absurd s
@@ -61,24 +64,30 @@ module _ (own : Command → ℕ) where
     unfoldable pub pendFrame : Frame → ℕ
     pendFrame f = sumOver own (tally own p) (tailOf (rest p f)) + (f .runs - 1) * tally own p (f .body)
 
+    -- Of all frames.
     unfoldable pub frames : Activity → ℕ
     frames a = sumBelow (a .depth) (λ d. pendFrame (frame a d))
 
+    -- Of the top command: all of it, or passing at a barrier.
     unfoldable pub costNow : ℕ → Activity → ℕ
     costNow late a = cond (isAtBarrier (a .status)) late (cost (tally own p) (here p (top a) .command))
 
+    -- Of an activity: nothing once it has ended.
     unfoldable pub pend : ℕ → Activity → ℕ
     pend late a = let r = frames a + costNow late a in cond (isEnded (a .status)) 0 r
 
+    -- Ended.
     pub pend-ended : (late : ℕ) (a : Activity) → isEnded (a .status) ≡ true → pend late a ≡ 0
     unfolding pend
     pend-ended late a e = rw e
 
+    -- Running.
     pub pend-running : (late : ℕ) (a : Activity) → isEnded (a .status) ≡ false → isAtBarrier (a .status) ≡ false
         → pend late a ≡ frames a + cost (tally own p) (here p (top a) .command)
     unfolding pend costNow
     pend-running late a e b = rw (e, b)
 
+    -- At a barrier.
     pub pend-met : (late : ℕ) (a : Activity) → isEnded (a .status) ≡ false → isAtBarrier (a .status) ≡ true → pend late a ≡ frames a + late
     unfolding pend costNow
     pend-met late a e b = rw (e, b)
@@ -106,6 +115,7 @@ module _ (own : Command → ℕ) where
         let there = moved-rest p ok f q o g gb ga in
         rw (there, o .found, gb, gr, sum-cons (tally own p) (o .next) (o .more)) (omega arith)
 
+    -- On its body's END only the runs to come are left.
     frame-last : (f : Frame) → tailOf (rest p f) ≡ [] → pendFrame p f ≡ (f .runs - 1) * tally own p (f .body)
     unfolding pendFrame
     frame-last f e = rw (e, sum-nil (tally own p)) (omega arith)
@@ -174,6 +184,7 @@ module _ (own : Command → ℕ) where
           = ap (λ f. pendFrame p f + cost (tally own p) (here p f .command)) (push-top p ok a s b k c lo hi) in
           omega arith
 
+    -- The frames without the top.
     left-frames : (a : Activity) (s : Stack p (a .depth) (a .frames)) (deep : 1 < a .depth) → frames p (left a) + pendFrame p (top a) ≡ frames p a
     unfolding left frames
     left-frames a s deep =

@@ -64,6 +64,7 @@ pub record Inv (p : Program) (s : State) (vt base : ℕ → ℕ) : Type 0 where
 unfoldable pub total : (Command → ℕ) → Program → ℕ → State → ℕ
 total own p late s = sumBelow (s .activities) (λ x. pend own p late (act s x))
 
+-- A reached state: the invariant, and counts that what is pending never exceeds.
 pub record Reached (p : Program) (s : State) : Type 0 where
   pub vt : ℕ → ℕ
   pub base : ℕ → ℕ
@@ -95,6 +96,7 @@ next-makes : (c : Command) → isNext c ≡ true → (ownActivities c ≡ 0) × 
 unfolding isNext rowOf rowAt rows
 next-makes c e = let q : opcode c ≡ 1 = eqb-true _ _ e in (ap (λ n. rowAt n .activities) q, ap (λ n. rowAt n .clocks) q, ap (λ n. rowAt n .accumulators) q)
 
+-- Where NEXT has no weight, a step weighs what its command does.
 spent-own : (own : Command → ℕ) (c : Command) (b : Bool) → (b ≡ true → own c ≡ 0) → spent own 0 c b ≡ own c
 unfolding spent
 spent-own own c true h = sym (h refl)
@@ -104,16 +106,19 @@ spent-own own c false h = go (isNext c)
     go true = omega arith
     go false = omega arith
 
+-- Both steps of NEXT count.
 next-work : 1 ≤ ownWork Next
 unfolding opcode rowOf rowAt rows
 next-work = omega arith
 
+-- Every command counts.
 work-some : (c : Command) → 0 < ownWork c
 unfolding Counts
 work-some c = omega (arith, counts [] (envOf zeroState) 0 noActivity c [] .3)
 
 -- WHAT IS PENDING AFTER A STEP
 
+-- The activity, its child, and no other change it.
 total-applied : (own : Command → ℕ) (p : Program) (late : ℕ) (s : State) → Bounded s → (i : ℕ) → i < s .activities → (e : Effect) → Fits s (e .spawned)
     → total own p late (applied s i e) + pend own p late (act s i) ≡ total own p late s + pend own p late (e .self) + pendChild own p late (e .spawned)
 unfolding total pendChild sumBelow Fits applied
@@ -138,6 +143,7 @@ total-applied own p late s z i h e f = go (e .spawned) refl
 -- THE INVARIANT AFTER AN EFFECT
 
 module _ (p : Program) (s : State) (vt base : ℕ → ℕ) (v : Inv p s vt base) where
+  -- A holder has not ended.
   ended-free : (x k : ℕ) → x < s .activities → holds (act s x) k ≡ true → ended s x ≡ false
   unfolding EachHold
   ended-free x k l h = go (decide (ended s x))
@@ -146,6 +152,7 @@ module _ (p : Program) (s : State) (vt base : ℕ → ℕ) (v : Inv p s vt base)
       go (inl e) = absurd (true-false (holds (act s x) k) h (v .fine x l .free e k))
       go (inr e) = e
 
+  -- What containment asks.
   nested : Nested p s
   unfolding EachHold
   nested =
@@ -156,6 +163,7 @@ module _ (p : Program) (s : State) (vt base : ℕ → ℕ) (v : Inv p s vt base)
         contained = v .contained;
       }
 
+  -- What the standstill argument asks.
   pub sane : Sane p s vt base
   unfolding EachHold
   sane =
@@ -177,10 +185,12 @@ module _ (p : Program) (s : State) (vt base : ℕ → ℕ) (v : Inv p s vt base)
       (ms : isAtBarrier (e .self .status) ≡ true → isNext (here p (top (e .self)) .command) ≡ true)
       (sc : OfChild (λ c. Stack p (c .depth) (c .frames) × (isAtBarrier (c .status) ≡ false)) (e .spawned))
       (sl : vt′ i ≤ s .steps + 1) (sn : OfChild (λ c. vt′ (s .activities) ≤ s .steps + 1) (e .spawned)) where
+    -- Clocks are never fewer.
     grows : (b : Bool) → s .clocks ≤ clockedCount (s .clocks) b
     grows true = omega arith
     grows false = omega arith
 
+    -- An effect with these facts keeps it.
     inv-applied : Inv p (applied s i e) vt′ base′
     unfolding applied
     inv-applied =
@@ -214,6 +224,7 @@ pub record Goes (p : Program) (s : State) (i : ℕ) : Type 0 where
   pub runs : ended s i ≡ false
   pub free : waits p s i ≡ false
 
+-- Numbers 14 to 16 do not apply.
 pub goes : (p : Program) (s : State) (i : ℕ) → refusal p s i ≡ 0 → Goes p s i
 unfolding refusal
 goes p s i e = go (decide (ltb i (s .activities))) (decide (ended s i)) (decide (waits p s i))
@@ -229,22 +240,27 @@ goes p s i e = go (decide (ltb i (s .activities))) (decide (ended s i)) (decide 
 abbrev pub doing : Program → State → ℕ → Effect
 doing p s i = effectOf p (envOf s) i (act s i) (at p s i .command) (at p s i .inner)
 
+-- The effect of a fault.
 abbrev pub failed : Program → State → ℕ → Effect
 failed p s i = failing (act s i) (Faulted (faultOf (fault p s i)))
 
+-- No fault: the command's.
 pub effect-doing : (p : Program) (s : State) (i : ℕ) → fault p s i ≡ 0 → effect p s i ≡ doing p s i
 unfolding effect
 effect-doing p s i e = rw (eq-eqb _ _ e)
 
+-- A fault: that.
 pub effect-failed : (p : Program) (s : State) (i : ℕ) → (fault p s i ≡ 0 → ⊥) → effect p s i ≡ failed p s i
 unfolding effect
 effect-failed p s i e = rw (ne-eqb _ _ e)
 
+-- A fact that is not about the child.
 any-child : (P : Type 0) → P → (ch : Spawned) → OfChild (λ c. P) ch
 unfolding OfChild
 any-child P q nobody = tt
 any-child P q (one c) = q
 
+-- No command changes its activity's spawner.
 same-spawner : {p : Program} {e : Env} {i : ℕ} {a : Activity} {c : Command} {x : Effect} → Kind p e i a c x → x .self .spawner ≡ a .spawner
 unfolding past pushed endOf again popped nextOf
 same-spawner {p} {e} {i} {a} (ends q s n) = ap (λ b. b .spawner) s ∙ go (leb (a .depth) 1) (ltb 1 (top a .runs))
@@ -264,24 +280,26 @@ same-spawner (loops k b q s n) = ap (λ b. b .spawner) s
 same-spawner (moves b g h t k s n) = ap (λ b. b .spawner) s ∙ k .spawner
 
 module _ (p : Program) (ok : Accepted p) (few : activitiesOf p ≤ 64) (s : State) (g : Reached p s) (i : ℕ) (h : i < s .activities) (r : ended s i ≡ false) where
-  v : Inv p s (g .vt) (g .base)
-  v = g .inv
-
+  -- The activity's arrays.
   size : SizedActivity (act s i)
   size = g .inv .bounded .sized .each i (omega (arith, h, g .inv .bounded .count))
 
+  -- What is pending of it is part of the whole.
   pend-total : (own : Command → ℕ) (late : ℕ) → pend own p late (act s i) ≤ total own p late s
   unfolding total
   pend-total own late = sumBelow-at (s .activities) (λ x. pend own p late (act s x)) i h
 
+  -- The kind of its command.
   its : Kind p (envOf s) i (act s i) (at p s i .command) (doing p s i)
   its = kind p (envOf s) i (act s i) (at p s i .command) (at p s i .inner)
 
+  -- What its command counts.
   row : Counts (at p s i .command) (doing p s i)
   row = counts p (envOf s) i (act s i) (at p s i .command) (at p s i .inner)
 
   -- A STEP WITHOUT A FAULT
 
+  -- What is pending of it pays for the step.
   spending : (own : Command → ℕ) (late : ℕ) → late ≤ own Next
       → pend own p late (act s i)
       ≡ spent own late (at p s i .command) (isAtBarrier (act s i .status)) + pend own p late (doing p s i .self) + pendChild own p late (doing p s i .spawned)
@@ -294,6 +312,7 @@ module _ (p : Program) (ok : Accepted p) (few : activitiesOf p ≤ 64) (s : Stat
   unfolding at
   weighs own z = spent-own own (at p s i .command) (isAtBarrier (act s i .status)) (λ b. z (g .inv .meets i h b))
 
+  -- There is room for who is spawned.
   pub doing-fits : Fits s (doing p s i .spawned)
   unfolding Counts Fits
   doing-fits =
@@ -314,6 +333,7 @@ module _ (p : Program) (ok : Accepted p) (few : activitiesOf p ≤ 64) (s : Stat
       let y = spending own late l in
       omega arith
 
+  -- The work pending falls by 1.
   pub doing-work : total ownWork p 1 (applied s i (doing p s i)) + 1 ≡ total ownWork p 1 s
   unfolding Counts
   doing-work =
@@ -321,6 +341,7 @@ module _ (p : Program) (ok : Accepted p) (few : activitiesOf p ≤ 64) (s : Stat
       let y = spent-work (at p s i .command) (isAtBarrier (act s i .status)) (row .3) in
       omega arith
 
+  -- The invariant after it.
   doing-inv : fault p s i ≡ 0
       → Inv p (applied s i (doing p s i)) (upd (upd (g .vt) (s .activities) (g .vt i)) i (later (g .vt i) (at p s i .command) (isAtBarrier (act s i .status)))) (upd (g .base) (s .clocks) (g .vt i))
   unfolding at fault
@@ -366,6 +387,7 @@ module _ (p : Program) (ok : Accepted p) (few : activitiesOf p ≤ 64) (s : Stat
       born-time : vt′ (s .activities) ≡ g .vt i
       born-time = upd-other (upd (g .vt) (s .activities) (g .vt i)) i _ (s .activities) (λ z. omega arith) ∙ upd-same (g .vt) (s .activities) (g .vt i)
 
+  -- The state after it is reached.
   pub doing-reached : fault p s i ≡ 0 → Reached p (applied s i (doing p s i))
   unfolding Counts
   doing-reached f =
@@ -386,6 +408,7 @@ module _ (p : Program) (ok : Accepted p) (few : activitiesOf p ≤ 64) (s : Stat
 
   -- A FAULT
 
+  -- All that was pending of it is lost.
   failed-total : (own : Command → ℕ) (late : ℕ) → total own p late (applied s i (failed p s i)) + pend own p late (act s i) ≡ total own p late s
   unfolding Fits pendChild
   failed-total own late =
@@ -402,6 +425,7 @@ module _ (p : Program) (ok : Accepted p) (few : activitiesOf p ≤ 64) (s : Stat
       let y = fault-pend p ok s i (act s i) (g .inv .stacks i h r) r (g .inv .meets i h) (at p s i .command) refl ownWork 1 work-some (q .0) (q .1) in
       omega arith
 
+  -- The state after it is reached.
   pub failed-reached : (fault p s i ≡ 0 → ⊥) → Reached p (applied s i (failed p s i))
   unfolding Fits OfChild Opening
   failed-reached f =
@@ -427,7 +451,7 @@ module _ (p : Program) (ok : Accepted p) (few : activitiesOf p ≤ 64) (s : Stat
             child = tt;
             opening = λ z. absurd (true-false true refl z);
           })
-          (g .vt) (g .base) (λ c l. refl) (λ x l d. refl) (size-stopped p (act s i) _ size) tt
+          (g .vt) (g .base) (λ c l. refl) (λ x l d. refl) (size-stopped (act s i) _ size) tt
           (fine-stopped (s .clocks) (g .base) (g .vt i) i (act s i) _ (g .inv .fine i h)) tt
           (λ z. absurd (true-false true refl z)) (λ z. absurd (true-false false z refl)) tt
           (omega (arith, g .inv .slow i h)) tt
@@ -446,6 +470,7 @@ reached-step p ok few s g i e = go (ℕ-discrete (fault p s i) 0)
 
 -- NUMBER 17 NEVER COMES
 
+-- There is room for who is spawned.
 pub fits-step : (p : Program) (ok : Accepted p) → activitiesOf p ≤ 64 → (s : State) → Reached p s → (i : ℕ) → refusal p s i ≡ 0 → Fits s (effect p s i .spawned)
 unfolding Fits
 fits-step p ok few s g i e = go (ℕ-discrete (fault p s i) 0)
@@ -469,21 +494,26 @@ work-step p ok few s g i e = go (ℕ-discrete (fault p s i) 0)
     go (yes f) = rw (effect-doing p s i f) (omega (arith, doing-work p ok few s g i (r .there) (r .runs)))
     go (no f) = rw (effect-failed p s i f) (omega (arith, failed-work p ok few s g i (r .there) (r .runs) f))
 
+-- Neither test passes.
 or-false : (a b : Bool) → a ≡ false → b ≡ false → a || b ≡ false
 or-false a b p q = rw (p, q)
 
+-- A limit above what there is.
 and-less : (a : Bool) (n m : ℕ) → (a ≡ true → m < n) → a && leb n m ≡ false
 and-less true n m h = lt-leb n m (h refl)
 and-less false n m h = refl
 
+-- Who spawns, spawns one.
 spawns-one : (ch : Spawned) → spawns ch ≡ true → spawnedCount 0 ch ≡ 1
 spawns-one nobody e = absurd (true-false false e refl)
 spawns-one (one c) e = refl
 
+-- A clock made is one.
 clocks-one : (b : Bool) → b ≡ true → clockedCount 0 b ≡ 1
 clocks-one true e = refl
 clocks-one false e = absurd (true-false false e refl)
 
+-- An accumulator made is one.
 makes-one : (w : Write) → makes w ≡ true → writtenCount 0 w ≡ 1
 makes-one keep e = absurd (true-false false e refl)
 makes-one (make c) e = refl

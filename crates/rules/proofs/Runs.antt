@@ -16,12 +16,12 @@ use Rattle.program.specs.Table.{numberOf}
 use Rattle.program.proofs.Shape.{Accepted}
 use Rattle.rules.specs.Search.{someBelow}
 use Rattle.rules.specs.Steps.{Limits, canStep, refusal, step}
-use Rattle.rules.specs.Runs.{taken, answers, answersFrom, finished, runFrom, run, isAccepted}
+use Rattle.rules.specs.Runs.{taken, answersFrom, answers, finished, run, runFrom, isAccepted}
 use Rattle.rules.proofs.Tests.{decide}
 use Rattle.rules.proofs.Search.{Witness, someBelow-witness, someBelow-none}
-use Rattle.rules.proofs.Bits.{bits-none}
+use Rattle.rules.proofs.ReadyBits.{bits-none}
 use Rattle.rules.proofs.Reached.{total, work-step}
-use Rattle.rules.proofs.Demand3.{Persists, counted, good-at, Good, alive, ready-set, taking, within, good-step}
+use Rattle.rules.proofs.Demand3.{StaysFit, counted, good-at, Good, alive, ready-set, taking, within, good-step}
 
 -- A list of steps, all taken, after which every spawned activity has ended.
 pub record Finishing (l : Limits) (t : List ℕ) (s : State) : Type 0 where
@@ -29,10 +29,10 @@ pub record Finishing (l : Limits) (t : List ℕ) (s : State) : Type 0 where
   pub taken-all : taken (answersFrom l t s more) ≡ length more
   pub done : finished (runFrom l t s more) ≡ true
 
-module _ (l : Limits) (t : List ℕ) (w : l .work ≤ l .phase) (ok : Accepted (programOf t)) (n : numberOf (l .work) t ≡ 0) (persists : Persists l) where
+module _ (l : Limits) (t : List ℕ) (w : l .work ≤ l .phase) (ok : Accepted (programOf t)) (n : numberOf (l .work) t ≡ 0) (fitness : StaysFit l) where
   -- Termination: every list has at most the work's number of accepted steps.
   pub terminates : (order : List ℕ) → taken (answers l t order) ≤ workOf (programOf t)
-  terminates order = omega (arith, counted l t w ok n persists order, good-at l t w ok n persists order .reached .work)
+  terminates order = omega (arith, counted l t w ok n fitness order, good-at l t w ok n fitness order .reached .work)
 
   -- Some activity is ready, or all have ended.
   ready-or-done : (s : State) → Good l t s → (Witness 64 (canStep (programOf t) s)) ⊎ (finished s ≡ true)
@@ -41,8 +41,8 @@ module _ (l : Limits) (t : List ℕ) (w : l .work ≤ l .phase) (ok : Accepted (
       go : (someBelow 64 (canStep (programOf t) s) ≡ true) ⊎ (someBelow 64 (canStep (programOf t) s) ≡ false) → (Witness 64 (canStep (programOf t) s)) ⊎ (finished s ≡ true)
       go (inl e) = inl (someBelow-witness 64 (canStep (programOf t) s) e)
       go (inr e) =
-          inr (alive l t w ok n persists s g
-          (ready-set l t w ok n persists s g ∙ bits-none 64 (canStep (programOf t) s) (someBelow-none 64 (canStep (programOf t) s) e)))
+          inr (alive l t w ok n fitness s g
+          (ready-set l t w ok n fitness s g ∙ bits-none 64 (canStep (programOf t) s) (someBelow-none 64 (canStep (programOf t) s) e)))
 
   -- With k of work pending at most.
   finishing : (k : ℕ) (s : State) → Good l t s → total ownWork (programOf t) 1 s < k → Finishing l t s
@@ -60,16 +60,16 @@ module _ (l : Limits) (t : List ℕ) (w : l .work ≤ l .phase) (ok : Accepted (
           r = eqb-true _ _ (x .passes)
 
           answer : isAccepted (step l t s (x .at) .answer) ≡ true
-          answer = ap (λ y. isAccepted (y .answer)) (taking l t w ok n persists s g (x .at) r)
+          answer = ap (λ y. isAccepted (y .answer)) (taking l t w ok n fitness s g (x .at) r)
 
           falls : total ownWork (programOf t) 1 (step l t s (x .at) .state) < k
           falls =
               let q = work-step (programOf t) ok (within l t w n .activities) s (g .reached) (x .at) r in
-              subst (λ y. total ownWork (programOf t) 1 (y .state) < k) (sym (taking l t w ok n persists s g (x .at) r)) (omega arith)
+              subst (λ y. total ownWork (programOf t) 1 (y .state) < k) (sym (taking l t w ok n fitness s g (x .at) r)) (omega arith)
 
           rest : Finishing l t (step l t s (x .at) .state)
-          rest = ih (step l t s (x .at) .state) (good-step l t w ok n persists s g (x .at)) falls
+          rest = ih (step l t s (x .at) .state) (good-step l t w ok n fitness s g (x .at)) falls
 
   -- From every point of a run a list finishes it.
   pub finishes-from : (order : List ℕ) → Finishing l t (run l t order)
-  finishes-from order = finishing (suc (total ownWork (programOf t) 1 (run l t order))) (run l t order) (good-at l t w ok n persists order) (omega arith)
+  finishes-from order = finishing (suc (total ownWork (programOf t) 1 (run l t order))) (run l t order) (good-at l t w ok n fitness order) (omega arith)

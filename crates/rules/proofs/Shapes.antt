@@ -19,6 +19,7 @@ use Rattle.rules.specs.Clocks.{quiesce, holds}
 use Rattle.rules.specs.Faults.{Env, faultFor}
 use Rattle.rules.specs.Effects.{Effect, endOf, nobody, nextOf, past, one, child, pushed, withHolds, withRegister, withNames, effectOf, repeatOf, spawnedCount, clockedCount, writtenCount, Spawned, Write, keep, make, offer, reset, Stored, withStores}
 
+-- The command is NEXT.
 unfoldable pub isNext : Command → Bool
 isNext c = eqb (opcode c) 0x01
 
@@ -63,12 +64,15 @@ pub data Kind (p : Program) (e : Env) (i : ℕ) (a : Activity) (c : Command) (x 
 alike-holds : {made : ℕ} {clocked : Bool} {a : Activity} {l : List Hold} → Reheld made clocked (a .holds) l → Alike made clocked a (withHolds a (a .status) l)
 alike-holds r = record { frames = refl; depth = refl; status = refl; spawner = refl; names = refl; holds = r }
 
+-- Its register.
 alike-register : {made : ℕ} {clocked : Bool} {a : Activity} (v : ℕ) → Alike made clocked a (withRegister a v)
 alike-register v = record { frames = refl; depth = refl; status = refl; spawner = refl; names = refl; holds = kept refl }
 
+-- One of its names.
 alike-names : {made : ℕ} {clocked : Bool} {a : Activity} (n v : ℕ) → Alike made clocked a (withNames a (set (a .accumulators) n v))
 alike-names n v = record { frames = refl; depth = refl; status = refl; spawner = refl; names = simp length-set; holds = kept refl }
 
+-- Nothing.
 alike-self : {made : ℕ} {clocked : Bool} {a : Activity} → Alike made clocked a a
 alike-self = record { frames = refl; depth = refl; status = refl; spawner = refl; names = refl; holds = kept refl }
 
@@ -104,6 +108,7 @@ Counts c x =
     × (writtenCount 0 (x .write) ≡ ownAccumulators c)
     × (ownWork c ≡ 1 + cond (isNext c) 1 0)
 
+-- Each command's row.
 pub counts : (p : Program) (e : Env) (i : ℕ) (a : Activity) (c : Command) (inner : List Command) → Counts c (effectOf p e i a c inner)
 unfolding Counts effectOf isNext opcode rowOf rowAt rows
 counts p e i a End inner = (refl, refl, refl, refl)
@@ -129,10 +134,12 @@ pub spawned-count : (n : ℕ) (ch : Spawned) → spawnedCount n ch ≡ n + spawn
 spawned-count n nobody = omega arith
 spawned-count n (one c) = omega arith
 
+-- The same of clocks.
 pub clocked-count : (n : ℕ) (b : Bool) → clockedCount n b ≡ n + clockedCount 0 b
 clocked-count n true = omega arith
 clocked-count n false = omega arith
 
+-- The same of accumulators.
 pub written-count : (n : ℕ) (w : Write) → writtenCount n w ≡ n + writtenCount 0 w
 written-count n keep = omega arith
 written-count n (make c) = omega arith
@@ -147,18 +154,19 @@ length-stores cells (x ∷ xs) = length-set (withStores cells xs) (x .cell) (x .
 
 -- WHAT FOLLOWS FROM THE KIND
 
--- A fact of the activity that a step forks, where it forks one.
+-- A fact of the activity that a step spawns, where it spawns one.
 unfoldable pub OfChild : (Activity → Type 0) → Spawned → Type 0
 OfChild P nobody = Unit {0}
 OfChild P (one c) = P c
 
+-- It goes on to what it implies.
 pub of-child : (P Q : Activity → Type 0) → ((c : Activity) → P c → Q c) → (ch : Spawned) → OfChild P ch → OfChild Q ch
 unfolding OfChild
 of-child P Q f nobody p = tt
 of-child P Q f (one c) p = f c p
 
 module _ {p : Program} {e : Env} {i : ℕ} {a : Activity} {c : Command} {x : Effect} where
-  -- Only ASYNC forks.
+  -- Only ASYNC spawns.
   pub born : (P : Activity → Type 0) → ((b m : ℕ) → c ≡ Async b m → P (child i a b m)) → Kind p e i a c x → OfChild P (x .spawned)
   unfolding OfChild
   born P f (ends q s n) = rw n tt

@@ -1,4 +1,4 @@
--- The sizes of a state's arrays: those that the declared types give it.
+-- The sizes of a state's arrays, as the declared types fix them.
 use Prim.Native.Nat.{ℕ, _<_}
 use mathlib.Core.Path.{_≡_}
 use lib.ListN.{length}

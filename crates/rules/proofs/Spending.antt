@@ -92,6 +92,7 @@ module _ (p : Program) (ok : Accepted p) (s : State) (i : ℕ) (a : Activity) (s
         go j (inl m) = open-before m
         go j (inr m) = begun-now (omega (arith, k (rw q at (m .0)), m .1)) xn
 
+    -- Each outcome of END.
     left-end : isEnd c ≡ true → isNext c ≡ false → (x : Effect) → x .self ≡ endOf p a → Left p s a x
     unfolding endOf again popped past Opening
     left-end l h x xs = go (leb (a .depth) 1) refl (ltb 1 (top a .runs)) refl xs
@@ -116,6 +117,7 @@ module _ (p : Program) (ok : Accepted p) (s : State) (i : ℕ) (a : Activity) (s
               opening = λ h j m. open-before (pop-open p ok a st (leb-false (a .depth) 1 d) j (rw xs at m));
             }
 
+    -- Both steps of NEXT.
     left-next : isEnd c ≡ false → isNext c ≡ true → (b : Bool) → (x : Effect) → x .self ≡ nextOf p a b → Left p s a x
     unfolding nextOf Opening
     left-next g h true x xs = left-past (withHolds a Running (map pass (a .holds))) refl refl refl g x xs
@@ -125,6 +127,7 @@ module _ (p : Program) (ok : Accepted p) (s : State) (i : ℕ) (a : Activity) (s
     pub names-above : names c ≡ true → (top a .body < named c) × (named c < length p)
     names-above n = subst (λ c. (top a .body < named c) × (named c < length p)) q (above-here p ok (top a) (place p ok a st) (rw q n))
 
+    -- By the kind of the command.
     pub left-by : {x : Effect} → Kind p (envOf s) i a c x → Left p s a x
     unfolding isEnd isNext opcode names named rowOf rowAt rows operandsOf
     left-by {x} (ends z xs n) = left-end (rw z) (rw z) x xs
@@ -146,12 +149,15 @@ module _ (p : Program) (ok : Accepted p) (s : State) (i : ℕ) (a : Activity) (s
     -- WHAT IS PENDING
 
     module _ (own : Command → ℕ) (late : ℕ) where
+      -- What is pending, for this weight.
       abbrev Pend : Activity → ℕ
       Pend b = pend own p late b
 
+      -- Before a command other than NEXT.
       before : isNext c ≡ false → Pend a ≡ frames own p a + cost own (tally own p) c
       before n = pend-running own p late a u (standing (rw q n)) ∙ ap (λ o. frames own p a + cost own (tally own p) o) q
 
+      -- The weight of one.
       weight : isNext c ≡ false → spent own late c (isAtBarrier (a .status)) ≡ own c
       unfolding spent
       weight n = rw (standing (rw q n), n) (omega arith)
@@ -163,6 +169,7 @@ module _ (p : Program) (ok : Accepted p) (s : State) (i : ℕ) (a : Activity) (s
       past-left b bd bf bb be g =
           past-pend own p ok late b (rw (bd, bf) st) be bb (rw (bd, bf, q) g) ∙ rw (bd, bf)
 
+      -- After END only the frames are left.
       end-left : isEnd c ≡ true → isNext c ≡ false → Pend (endOf p a) ≡ frames own p a
       unfolding endOf
       end-left l h = go (leb (a .depth) 1) refl (ltb 1 (top a .runs)) refl

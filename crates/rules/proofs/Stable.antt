@@ -34,6 +34,7 @@ pub record Behind (c p : ℕ) (h : Hold) : Type 0 where
   pub same : h .clock ≡ c
   pub order : (h .phase < p) ⊎ ((h .phase ≡ p) × (isLive (h .registration) ≡ true))
 
+-- It says so.
 pub behind-out : (c p : ℕ) (h : Hold) → isBehind c p h ≡ true → Behind c p h
 unfolding isBehind
 behind-out c p h e = record { holds = first .0; same = eqb-true (h .clock) c (second .0); order = go (or-true _ _ (second .1)) }
@@ -49,6 +50,7 @@ behind-out c p h e = record { holds = first .0; same = eqb-true (h .clock) c (se
     go (inl l) = inl (ltb-true _ _ l)
     go (inr l) = let q = and-true _ _ l in inr (eqb-true _ _ (q .0), q .1)
 
+-- And is said by it.
 pub behind-in : (c p : ℕ) (h : Hold) → Behind c p h → isBehind c p h ≡ true
 unfolding isBehind
 behind-in c p h b = and-intro _ _ (b .holds) (and-intro _ _ (eq-eqb _ _ (b .same)) (go (b .order)))
@@ -60,6 +62,7 @@ behind-in c p h b = and-intro _ _ (b .holds) (and-intro _ _ (eq-eqb _ _ (b .same
 module _ (c p : ℕ) where
   -- HOLDS: what is behind after a step was behind before it
 
+  -- Behind after, behind before.
   unfoldable Kept : Hold → Hold → Type 0
   Kept h h′ = isBehind c p h′ ≡ true → isBehind c p h ≡ true
 
@@ -81,10 +84,12 @@ module _ (c p : ℕ) where
       go (inr l) (inl m) = inl (omega arith)
       go (inr l) (inr m) = inr (l .0 ∙ m .0, l .1 (m .1))
 
+  -- No hold is not behind.
   kept-none : (h : Hold) → Kept h noHold
   unfolding Kept isBehind
   kept-none h e = absurd (true-false false e refl)
 
+  -- A hold quiesced is no more behind.
   kept-quiesce : (h : Hold) → Kept h (quiesce h)
   kept-quiesce h = kept-on h (quiesce h) (held-quiesced (h .registration)) refl (λ e. inr (refl, live (h .registration)))
     where
@@ -93,12 +98,14 @@ module _ (c p : ℕ) where
       live Live e = refl
       live Quiesced e = e
 
+  -- Nor is one that has passed.
   kept-pass : (h : Hold) → Kept h (pass h)
   kept-pass h = kept-on h (pass h) (held-revived (h .registration)) refl (λ e. inl (later (h .registration) (held-revived (h .registration) e)))
     where
       later : (r : Registration) → isHeld r ≡ true → h .phase < h .phase + cond (isHeld r) 1 0
       later r e = rw e (omega arith)
 
+  -- Nor is what a step makes of a hold, on a clock made before.
   kept-became : (made : ℕ) → c < made → (h h′ : Hold) → Became made h h′ → Kept h h′
   unfolding Kept
   kept-became made l h h′ (unchanged q) = λ e. rw q at e
@@ -109,9 +116,11 @@ module _ (c p : ℕ) where
 
   -- LISTS OF HOLDS
 
+  -- The same of each name.
   unfoldable pub Quiet : List Hold → List Hold → Type 0
   Quiet l l′ = (k : ℕ) → isBehind c p (getD l′ k noHold) ≡ true → isBehind c p (getD l k noHold) ≡ true
 
+  -- What a step makes of all holds.
   pub quiet-turned : (made : ℕ) → c < made → (l l′ : List Hold) → Turned made l l′ → Quiet l l′
   unfolding Quiet Turned Kept
   quiet-turned made h l l′ t k = kept-became made h (getD l k noHold) (getD l′ k noHold) (t k)
@@ -154,6 +163,7 @@ module _ (c p : ℕ) where
     pub eight : name < 8
     pub back : isBehind c p (hold (act s other) name) ≡ true
 
+  -- A phase that is not quiescent has one.
   blocked : (s : State) → quiescent s c p ≡ false → Blocked s
   unfolding quiescent behind
   blocked s e =
@@ -161,6 +171,7 @@ module _ (c p : ℕ) where
       let v = someBelow-witness 8 (λ k. isBehind c p (hold (act s (w .at)) k)) (w .passes) in
       record { other = w .at; there = w .below; name = v .at; eight = v .below; back = v .passes }
 
+  -- One that is quiescent has none.
   not-blocked : (s : State) → quiescent s c p ≡ true → Blocked s → ⊥
   unfolding quiescent behind
   not-blocked s e b =

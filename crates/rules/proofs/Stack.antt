@@ -20,9 +20,11 @@ use Rattle.rules.specs.Effects.{withFrames, past, again, pushed, popped}
 use Rattle.rules.proofs.Tree.{Open}
 use Rattle.rules.proofs.Bodies.{Placed, placed-begun, moved, placed-on, onward}
 
+-- A frame of a stack.
 abbrev pub frameAt : List Frame → ℕ → Frame
 frameAt fs d = getD fs d noFrame
 
+-- n frames.
 pub record Stack (p : Program) (n : ℕ) (fs : List Frame) : Type 0 where
   pub sixteen : length fs ≡ 16
   pub deep : 0 < n
@@ -50,6 +52,7 @@ left a = withFrames a (a .depth - 1) (set (a .frames) (a .depth - 1) noFrame)
 module _ (p : Program) (ok : Accepted p) where
   -- LISTS OF FRAMES
 
+  -- No more than sixteen bodies are stacked.
   pub depth≤ : (n : ℕ) (fs : List Frame) → Stack p n fs → n ≤ 16
   depth≤ n fs s =
       let h : n - 1 < n = omega (arith, s .deep) in
@@ -123,6 +126,7 @@ module _ (p : Program) (ok : Accepted p) where
       under d l (yes q) = let low : frameAt (set fs n f) d ≡ frameAt fs (n - 1) = other d (λ e. omega arith) ∙ ap (λ k. frameAt fs k) (omega arith) in rw low r
       under d l (no q) = let low = other d (λ e. omega arith) in rw low (s .ran d (omega arith))
 
+  -- One body, begun.
   pub stack-lone : (f : Frame) → f .body < length p → f .offset ≡ 0 → f .runs ≡ 0 → Stack p 1 (lone f)
   stack-lone f l z r =
       record {
@@ -152,15 +156,19 @@ module _ (p : Program) (ok : Accepted p) where
   -- AN ACTIVITY'S STACK
 
   module _ (a : Activity) (s : Stack p (a .depth) (a .frames)) where
+    -- The top is a frame of the array.
     room : a .depth - 1 < length (a .frames)
     room = omega (arith, s .sixteen, depth≤ (a .depth) (a .frames) s, s .deep)
 
+    -- It is one of the stack.
     below : a .depth - 1 < a .depth
     below = omega (arith, s .deep)
 
+    -- It stands on a command.
     pub place : Placed p (top a)
     place = s .placed (a .depth - 1) below
 
+    -- Its body has a number at least its level.
     pub climb : a .depth - 1 ≤ top a .body
     climb = s .rises (a .depth - 1) below
 
@@ -169,16 +177,19 @@ module _ (p : Program) (ok : Accepted p) where
     unfolding past
     past-top = getD-set-same (a .frames) (a .depth - 1) (moved p (top a)) noFrame room
 
+    -- The frames under it stay.
     pub past-under : (d : ℕ) → d < a .depth - 1 → frame (past p a) d ≡ frame a d
     unfolding past
     past-under d l = getD-set-other (a .frames) (a .depth - 1) d (moved p (top a)) noFrame (λ e. omega arith)
 
+    -- It is a stack again.
     pub past-stack : isEnd (here p (top a) .command) ≡ false → Stack p (past p a .depth) (past p a .frames)
     unfolding past
     past-stack g =
         stack-set (a .depth) (a .frames) (moved p (top a)) s (placed-on p ok (top a) place (onward p ok (top a) place g)) refl
         (λ e. subst (λ n. frameAt (a .frames) (n - 1) .runs ≡ 0) (sym e) (s .bottom))
 
+    -- What is open then was open.
     pub past-open : (j : ℕ) → Open p (past p a .depth) (past p a .frames) j → Open p (a .depth) (a .frames) j
     unfolding past
     past-open j o = frames-open a (past p a) refl past-under (ap (λ f. f .first) past-top) j o
@@ -188,40 +199,49 @@ module _ (p : Program) (ok : Accepted p) where
     unfolding again rerun
     again-top = getD-set-same (a .frames) (a .depth - 1) (rerun a) noFrame room
 
+    -- The frames under it stay.
     pub again-under : (d : ℕ) → d < a .depth - 1 → frame (again a) d ≡ frame a d
     unfolding again
     again-under d l = getD-set-other (a .frames) (a .depth - 1) d _ noFrame (λ e. omega arith)
 
+    -- It is a stack again.
     pub again-stack : 1 < top a .runs → Stack p (again a .depth) (again a .frames)
     unfolding again rerun
     again-stack l =
         stack-set (a .depth) (a .frames) (rerun a) s (placed-begun p ok (rerun a) (place .listed) refl) refl
         (λ e. absurd (omega (arith, subst (λ n. frameAt (a .frames) (n - 1) .runs ≡ 0) (sym e) (s .bottom), l)))
 
+    -- What is open then was open.
     pub again-open : (j : ℕ) → Open p (again a .depth) (again a .frames) j → Open p (a .depth) (a .frames) j
     unfolding again rerun
     again-open j o = frames-open a (again a) refl again-under (ap (λ f. f .first) again-top) j o
 
     -- A body begun.
     module _ (b n c : ℕ) (lo : top a .body < b) (hi : b < length p) where
+      -- There is room for its frame.
       space : a .depth < 16
       space = omega (arith, ok .few, climb, s .deep)
 
+      -- The new top is at the old depth.
       over : a .depth + 1 - 1 ≡ a .depth
       over = omega arith
 
+      -- That is the body's.
       pub push-top : top (pushed a b n c) ≡ begins b n c
       unfolding pushed begins
       push-top = ap (λ d. getD (set (a .frames) (a .depth) (begins b n c)) d noFrame) over ∙ getD-set-same (a .frames) (a .depth) (begins b n c) noFrame (omega (arith, s .sixteen, space))
 
+      -- The frames under it stay.
       pub push-under : (d : ℕ) → d < a .depth → frame (pushed a b n c) d ≡ frame a d
       unfolding pushed
       push-under d l = getD-set-other (a .frames) (a .depth) d _ noFrame (λ e. omega arith)
 
+      -- It is a stack again.
       pub push-stack : isEnd (here p (top a) .command) ≡ false → Stack p (pushed a b n c .depth) (pushed a b n c .frames)
       unfolding pushed begins
       push-stack g = stack-push (a .depth) (a .frames) (begins b n c) s space (placed-begun p ok (begins b n c) hi refl) g (omega (arith, climb, s .deep))
 
+      -- What is open then was open, or is the body that a FINISH began.
       pub push-open : (j : ℕ) → Open p (pushed a b n c .depth) (pushed a b n c .frames) j
           → (Open p (a .depth) (a .frames) j) ⊎ ((isFinish (here p (top a) .command) ≡ true) × (c ≡ j))
       unfolding pushed begins
@@ -247,21 +267,26 @@ module _ (p : Program) (ok : Accepted p) where
 
     -- A body left: what remains before it goes on.
     module _ (deep : 1 < a .depth) where
+      -- It is a stack.
       pub left-stack : Stack p (left a .depth) (left a .frames)
       unfolding left
       left-stack = stack-pop (a .depth) (a .frames) deep s
 
+      -- The frames under it stay.
       pub left-under : (d : ℕ) → d < a .depth - 1 → frame (left a) d ≡ frame a d
       unfolding left
       left-under d l = getD-set-other (a .frames) (a .depth - 1) d noFrame noFrame (λ e. omega arith)
 
+      -- The body below is on top.
       left-top : top (left a) ≡ frame a (a .depth - 2)
       unfolding left
       left-top = left-under (a .depth - 1 - 1) (omega arith) ∙ ap (λ n. frame a n) (omega arith)
 
+      -- It stands on the command that ran the body.
       pub left-goes : isEnd (here p (top (left a)) .command) ≡ false
       left-goes = subst (λ f. isEnd (here p f .command) ≡ false) (sym left-top) (s .ran (a .depth - 2) (omega arith))
 
+      -- What is open then was open.
       left-open : (j : ℕ) → Open p (left a .depth) (left a .frames) j → Open p (a .depth) (a .frames) j
       unfolding left
       left-open j o =
@@ -272,10 +297,12 @@ module _ (p : Program) (ok : Accepted p) where
             first = ap (λ f. f .first) (sym (left-under (suc (o .level)) (o .deeper))) ∙ o .first;
           }
 
+  -- The body below has gone on: a stack again.
   pub pop-stack : (a : Activity) → Stack p (a .depth) (a .frames) → 1 < a .depth → Stack p (popped p a .depth) (popped p a .frames)
   unfolding popped left
   pop-stack a s l = past-stack (left a) (left-stack a s l) (left-goes a s l)
 
+  -- What is open then was open.
   pub pop-open : (a : Activity) → Stack p (a .depth) (a .frames) → 1 < a .depth → (j : ℕ) → Open p (popped p a .depth) (popped p a .frames) j
       → Open p (a .depth) (a .frames) j
   unfolding popped left

@@ -9,7 +9,7 @@ use Rattle.rules.specs.declared.state.Activity.{Activity}
 use Rattle.program.specs.Bodies.{Program}
 use Rattle.program.specs.Count.{tally, workOf, activitiesOf, clocksOf, accumulatorsOf, ownActivities, ownClocks, ownAccumulators, ownWork}
 use Rattle.program.proofs.Shape.{Accepted}
-use Rattle.rules.specs.State.{noActivity, noFrame, noFrames, act, absent, isEnded, isAtBarrier, top}
+use Rattle.rules.specs.State.{noActivity, noFrames, noFrame, act, absent, isEnded, isAtBarrier, top}
 use Rattle.rules.specs.Clocks.{holds, isHeld}
 use Rattle.rules.specs.Tree.{here}
 use Rattle.rules.specs.Effects.{withFrames}
@@ -26,9 +26,11 @@ use Rattle.rules.proofs.Stack.{Stack, stack-lone}
 use Rattle.rules.proofs.Potential.{lone-pend}
 use Rattle.rules.proofs.Reached.{Inv, total, Reached}
 
+-- Activity 0 at the start.
 main : Activity
 main = withFrames noActivity 1 noFrames
 
+-- All arrays have their sizes.
 sized-start : Sized startState
 unfolding main
 sized-start = record { acts64 = refl; accs16 = refl; cells16 = refl; each = λ i l. go i l (stored (replicate 64 noActivity) 0 main i absent) }
@@ -45,10 +47,12 @@ only-main : (P : ℕ → Activity → Type 0) → P 0 main → (x : ℕ) → x <
 unfolding main
 only-main P q x l = let e : 0 ≡ x = omega arith in subst (λ y. P y (act startState y)) e q
 
+-- Nobody holds a clock.
 no-hold : (x k : ℕ) → x < startState .activities → holds (act startState x) k ≡ true → ⊥
 unfolding main EachHold
 no-hold x k l = only-main (λ x a. holds a k ≡ true → ⊥) (λ h. true-false (holds main k) h (each-none (λ h. isHeld (h .registration) ≡ false) refl 8 k)) x l
 
+-- Main runs and holds nothing.
 start-fine : Fine 0 (λ c. 0) 0 0 main
 unfolding main
 start-fine =
@@ -60,6 +64,7 @@ start-fine =
     }
 
 module _ (p : Program) (ok : Accepted p) where
+  -- The invariant, at time 0.
   start-inv : Inv p startState (λ x. 0) (λ c. 0)
   unfolding main
   start-inv =
@@ -78,6 +83,7 @@ module _ (p : Program) (ok : Accepted p) where
   unfolding total sumBelow
   start-total own late = let q = lone-pend own p ok late (withFrames noActivity 1 noFrames) noFrame refl refl refl (ok .some) refl refl in omega arith
 
+  -- The start state is reached.
   pub start-reached : Reached p startState
   unfolding workOf activitiesOf clocksOf accumulatorsOf
   start-reached =

@@ -40,10 +40,12 @@ open-none p a e j o =
     true-false (isFinish (here p (frame a (o .level)) .command)) (o .finish) (someBelow-none (a .depth - 1) (finishes p a) e (o .level) (omega (arith, o .deeper)))
 
 module _ (s : State) where
+  -- A descendant has a greater number.
   pub descends-above : (w x : ℕ) → descends s w x ≡ true → w < x
   unfolding descends
   descends-above w x h = chain-above (spawnerOf s) (λ y. true) w 64 x h
 
+  -- So has one inside a finish.
   pub inside-above : (w j x : ℕ) → inside s w j x ≡ true → w < x
   unfolding inside
   inside-above w j x h = chain-above (spawnerOf s) (leb j) w 64 x h

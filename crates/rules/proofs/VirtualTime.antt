@@ -45,6 +45,7 @@ pub record Fine (made : ℕ) (base : ℕ → ℕ) (v : ℕ) (x : ℕ) (a : Activ
 unfoldable pub later : ℕ → Command → Bool → ℕ
 later v c b = cond (isNext c && b) (v + 1) v
 
+-- A step raises it by one at most.
 pub later-slow : (v : ℕ) (c : Command) (b : Bool) → later v c b ≤ v + 1
 unfolding later
 later-slow v c b = go (isNext c && b)
@@ -63,10 +64,12 @@ phase-slow {made} {base} {v} {h} t = go (decide (isHeld (h .registration)))
 
 -- HOLDS
 
+-- A name without a hold.
 pub timed-none : (made : ℕ) (base : ℕ → ℕ) (v : ℕ) → Timed made base v noHold
 timed-none made base v =
     record { clocked = λ e. absurd (true-false false e refl); time = λ e. absurd (true-false false e refl); vacant = λ e. refl }
 
+-- Quiescing keeps the phase.
 timed-quiesce : (made : ℕ) (base : ℕ → ℕ) (v : ℕ) (h : Hold) → Timed made base v h → Timed made base v (quiesce h)
 timed-quiesce made base v h t =
     record {
@@ -80,6 +83,7 @@ timed-quiesce made base v h t =
     free Live e = e
     free Quiesced e = e
 
+-- Passing raises phase and time.
 timed-pass : (made : ℕ) (base : ℕ → ℕ) (v : ℕ) (h : Hold) → Timed made base v h → Timed made base (v + 1) (pass h)
 timed-pass made base v h t =
     record {
@@ -99,6 +103,7 @@ timed-on : (made made′ : ℕ) (base base′ : ℕ → ℕ) (v : ℕ) → made 
 timed-on made made′ base base′ v l e h t =
     record { clocked = λ q. omega (arith, t .clocked q); time = λ q. rw (e (h .clock) (t .clocked q)) (t .time q); vacant = t .vacant }
 
+-- The same of an activity.
 pub fine-on : (made made′ : ℕ) (base base′ : ℕ → ℕ) (v x : ℕ) (a : Activity) → made ≤ made′ → ((c : ℕ) → c < made → base′ c ≡ base c)
     → Fine made base v x a → Fine made′ base′ v x a
 unfolding EachHold
@@ -124,6 +129,7 @@ fine-stopped made base v x a status f =
     }
 
 module _ (p : Program) (base : ℕ → ℕ) (v i : ℕ) (a : Activity) (made : ℕ) (f : Fine made base v i a) where
+  -- Each outcome of END.
   fine-end : Fine made base v i (endOf p a)
   unfolding endOf again popped past
   fine-end = go (leb (a .depth) 1) (ltb 1 (top a .runs))
@@ -133,6 +139,7 @@ module _ (p : Program) (base : ℕ → ℕ) (v i : ℕ) (a : Activity) (made : �
       go false true = fine-same made base v i a (again a) refl refl refl f
       go false false = fine-same made base v i a (popped p a) refl refl refl f
 
+  -- Both steps of NEXT.
   fine-next : (b : Bool) → Fine made base (cond b (v + 1) v) i (nextOf p a b)
   unfolding nextOf past EachHold
   fine-next true =
@@ -159,17 +166,21 @@ module _ (p : Program) (base : ℕ → ℕ) (v i : ℕ) (a : Activity) (made : �
 
 -- The base of the clock that the step may make is its maker's time.
 module _ (p : Program) (e : Env) (base : ℕ → ℕ) (v i : ℕ) (a : Activity) (f : Fine (e .clock) base v i a) (unended : isEnded (a .status) ≡ false) where
+  -- The bases after the step.
   base′ : ℕ → ℕ
   base′ = upd base (e .clock) v
 
+  -- The activity before the step, under them.
   keep-to : (m : ℕ) → e .clock ≤ m → Fine m base′ v i a
   unfolding base′
   keep-to m l = fine-on (e .clock) m base base′ v i a l (λ c l. upd-other base (e .clock) v c (λ e. omega arith)) f
 
+  -- Clocks are never fewer.
   grows : (b : Bool) → e .clock ≤ clockedCount (e .clock) b
   grows true = omega arith
   grows false = omega arith
 
+  -- A change of register, names and one hold at most.
   fine-alike : (clocked : Bool) (b : Activity) → isAtBarrier (a .status) ≡ false → Alike (e .clock) clocked a b → Fine (clockedCount (e .clock) clocked) base′ v i b
   unfolding EachHold base′
   fine-alike clocked b n k = go (k .holds)
@@ -196,6 +207,7 @@ module _ (p : Program) (e : Env) (base : ℕ → ℕ) (v i : ℕ) (a : Activity)
             timed = rw q (each-set (Timed made base′ v) (a .holds) j h (timed j h r) (g .timed));
           }
 
+  -- By the kind of the command: the activity itself.
   pub fine-self : {c : Command} {x : Effect} → (isNext c ≡ false → isAtBarrier (a .status) ≡ false) → Kind p e i a c x
       → Fine (clockedCount (e .clock) (x .clocked)) (upd base (e .clock) v) (later v c (isAtBarrier (a .status))) i (x .self)
   unfolding later past pushed isNext opcode base′

@@ -55,6 +55,7 @@ pub record Sane (p : Program) (s : State) (vt base : ℕ → ℕ) : Type 0 where
       → x < s .activities → y < s .activities → holds (act s x) k ≡ true → holds (act s y) l ≡ true
       → hold (act s y) l .clock ≡ hold (act s x) k .clock → inside s w j x ≡ true → inside s w j y ≡ true
 
+-- Passing waits for a holder who is behind.
 at-meeting : (p : Program) (s : State) (i x : ℕ) → x < s .activities → isAtBarrier (act s i .status) ≡ true → behindOf s (act s i) x ≡ true
     → AtMeeting (view p s) i
 unfolding behindOf behind
@@ -65,6 +66,7 @@ at-meeting p s i x l e b =
     let c = behind-out (hold (act s i) (w .at) .clock) (hold (act s i) (w .at) .phase) (hold (act s x) (v .at)) (v .passes) in
     record { standing = e; own = w .at; owned = q .0; other = x; there = l; name = v .at; holds = c .holds; same = c .same; behind = c .order }
 
+-- END of a FINISH body waits for one inside.
 at-finish : (p : Program) (s : State) (i x : ℕ) → x < s .activities → inFinishBody p (act s i) && unendedInside s i (top (act s i) .first) x ≡ true
     → AtFinish (view p s) i
 unfolding unendedInside
@@ -73,6 +75,7 @@ at-finish p s i x l e =
     let r = and-true _ _ (q .1) in
     record { first = top (act s i) .first; level = open-top p (act s i) (q .0); other = x; there = l; runs = r .1; within = r .0 }
 
+-- READ and RESET wait for a descendant.
 at-read : (p : Program) (s : State) (i x : ℕ) → Bounded s → i < s .activities → x < s .activities → holdsSome (act s i) ≡ false → unendedBelow s i x ≡ true
     → AtRead (view p s) i
 unfolding unendedBelow holdsSome
@@ -118,6 +121,7 @@ waiting-for p s i x z l m (Store d) f e = absurd (true-false _ e refl)
 waiting-for p s i x z l m (Add d) f e = absurd (true-false _ e refl)
 waiting-for p s i x z l m (Atom k) f e = absurd (true-false _ e refl)
 
+-- Who waits, waits at one of the three.
 waiting : (p : Program) (s : State) (i : ℕ) → Bounded s → i < s .activities → waits p s i ≡ true → Waits (view p s) i
 unfolding waits waitsAt fault
 waiting p s i z l e =
@@ -125,6 +129,7 @@ waiting p s i z l e =
     let w = someBelow-witness (s .activities) (waitsFor p s i (act s i) (at p s i .command)) (q .1) in
     waiting-for p s i (w .at) z l (w .below) (at p s i .command) (eqb-true _ 0 (q .0)) (w .passes)
 
+-- The invariants say what the argument asks of a view.
 sound : (p : Program) (s : State) (vt base : ℕ → ℕ) → Sane p s vt base → Sound (view p s) vt base
 sound p s vt base g =
     record {

@@ -11,6 +11,7 @@ use Rattle.rules.specs.Search.{bitsBelow}
 use Rattle.rules.specs.Faults.{bit}
 use Rattle.rules.proofs.Tests.{true-false}
 
+-- A set of numbers below n has n bits.
 bits-lt : (n : ℕ) (f : ℕ → Bool) → bitsBelow n f < 2 ^ n
 unfolding bitsBelow
 bits-lt zero f = omega arith
