@@ -1,5 +1,5 @@
 -- The commands of an accepted program: what is left of a body from a place is shaped like a body, and the place after a command is the next command's.
-use Prim.Native.Nat.{ℕ, zero, _≤_, _<_}
+use Prim.Native.Nat.{ℕ, _≤_, _<_}
 use native.Mathlib.Omega.{arith}
 use mathlib.Core.List.{[], _∷_}
 use mathlib.Core.Bool.{true, false, cond}
@@ -13,7 +13,6 @@ use Rattle.program.specs.Command.{width, names, named, isEnd}
 use Rattle.program.specs.Bodies.{from, Located, Body, headOf, tailOf, Program}
 use Rattle.program.proofs.Shape.{stride, Shaped, Sound, Accepted}
 use Rattle.rules.specs.Tree.{here, rest, nextOffset}
-use Rattle.rules.specs.Steps.{at}
 use Rattle.rules.proofs.Tests.{decide, true-false}
 
 -- What a place finds at the head of a body, or further on.

@@ -19,7 +19,7 @@ use Rattle.rules.specs.State.{ended, isEnded, top, isAtBarrier}
 use Rattle.rules.specs.Faults.{Env}
 use Rattle.rules.specs.Effects.{Effect, applied, past, pushed, endOf, again, popped, nextOf, stopped}
 use Rattle.rules.specs.WellFormed.{wellFormed}
-use Rattle.rules.specs.Steps.{step, stepped, refusal, waits, advance, Limits, exceeds, effect, stepWith, unfit, start, startState, startWith}
+use Rattle.rules.specs.Steps.{stepped, step, refusal, waits, advance, Limits, exceeds, effect, stepWith, unfit, start, startState, startWith}
 use Rattle.rules.specs.Runs.{isFault}
 use Rattle.rules.proofs.Tests.{decide, true-false}
 use Rattle.rules.proofs.Shapes.{Kind, ends, meets, forks, opens, loops, moves}

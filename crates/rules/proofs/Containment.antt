@@ -15,15 +15,13 @@ use Rattle.program.specs.declared.command.Command.the-variants.{Async}
 use Rattle.rules.specs.declared.state.Hold.{Hold}
 use Rattle.rules.specs.declared.state.Activity.{Activity}
 use Rattle.rules.specs.declared.state.State.{State}
-use Rattle.program.specs.Command.{has}
-use Rattle.program.specs.Bodies.{Program, from}
+use Rattle.program.specs.Bodies.{Program}
 use Rattle.rules.specs.Search.{chain}
 use Rattle.rules.specs.State.{act, hold, ended, isEnded}
 use Rattle.rules.specs.Clocks.{holds, isHeld}
 use Rattle.rules.specs.Tree.{inside, spawnerOf}
 use Rattle.rules.specs.Faults.{Env, faultFor}
-use Rattle.rules.specs.Effects.{one, lent, Effect, nobody, child, applied, Spawned, spawnedCount}
-use Rattle.rules.specs.Steps.{at}
+use Rattle.rules.specs.Effects.{one, Effect, nobody, child, applied, Spawned, spawnedCount}
 use Rattle.rules.proofs.Tests.{true-false}
 use Rattle.rules.proofs.Search.{chain-same, chain-cases, chain-on, chain-above}
 use Rattle.rules.proofs.Shapes.{OfChild, of-child, born, Kind}

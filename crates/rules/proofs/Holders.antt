@@ -15,14 +15,12 @@ use Rattle.rules.specs.declared.state.Registration.{Registration}
 use Rattle.rules.specs.declared.state.Registration.the-variants.{Free, Live, Quiesced}
 use Rattle.rules.specs.declared.state.Hold.{Hold}
 use Rattle.rules.specs.declared.state.Activity.{Activity}
-use Rattle.program.specs.Command.{held}
 use Rattle.program.specs.Bodies.{Program}
 use Rattle.rules.specs.State.{noHold, hold, top, isAtBarrier}
 use Rattle.rules.specs.Clocks.{isHeld, quiesce, quiesced, revived, holds, isLive, pass}
 use Rattle.rules.specs.Tree.{inOwnFinish}
 use Rattle.rules.specs.Faults.{bit, Env, faultFor, asyncFault, lendsUnheld, lendsQuiesced}
 use Rattle.rules.specs.Effects.{lent, endOf, again, popped, past, stopped, nextOf, Effect, pushed}
-use Rattle.rules.specs.Steps.{at}
 use Rattle.rules.proofs.Tests.{true-false, cond-zero, and-not, and-false}
 use Rattle.rules.proofs.Search.{someBelow-none}
 use Rattle.rules.proofs.Lists.{old, stored, Stored, new}

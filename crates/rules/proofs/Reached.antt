@@ -24,7 +24,7 @@ use Rattle.rules.specs.Clocks.{holds, quiescent}
 use Rattle.rules.specs.Tree.{here, inside}
 use Rattle.rules.specs.Faults.{Env}
 use Rattle.rules.specs.Effects.{make, envOf, applied, Effect, one, Spawned, spawnedCount, nobody, clockedCount, effectOf, failing, past, pushed, endOf, again, popped, nextOf, stopped, Write, writtenCount, keep, offer, reset}
-use Rattle.rules.specs.Steps.{at, base, Limits, makes, waits, refusal, effect, fault, spawns, exceeds}
+use Rattle.rules.specs.Steps.{at, Limits, makes, waits, refusal, effect, fault, spawns, exceeds}
 use Rattle.rules.proofs.Tests.{decide, true-false}
 use Rattle.rules.proofs.Search.{someBelow-all}
 use Rattle.rules.proofs.Sums.{sumBelow, sumBelow-one, sumBelow-at, upd, upd-other, upd-same}

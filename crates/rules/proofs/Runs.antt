@@ -16,7 +16,7 @@ use Rattle.program.specs.Table.{numberOf}
 use Rattle.program.proofs.Shape.{Accepted}
 use Rattle.rules.specs.Search.{someBelow}
 use Rattle.rules.specs.Steps.{Limits, canStep, refusal, step}
-use Rattle.rules.specs.Runs.{taken, answersFrom, answers, finished, run, runFrom, isAccepted}
+use Rattle.rules.specs.Runs.{taken, answersFrom, answers, finished, runFrom, run, isAccepted}
 use Rattle.rules.proofs.Tests.{decide}
 use Rattle.rules.proofs.Search.{Witness, someBelow-witness, someBelow-none}
 use Rattle.rules.proofs.ReadyBits.{bits-none}

@@ -15,7 +15,7 @@ use Rattle.program.specs.Command.{opcode, names, isEnd, times, operandsOf, rowO
 use Rattle.program.specs.Bodies.{Program}
 use Rattle.program.specs.Count.{ownActivities, ownClocks, ownAccumulators, ownWork}
 use Rattle.rules.specs.State.{noHold, isAtBarrier}
-use Rattle.rules.specs.Clocks.{quiesce, holds}
+use Rattle.rules.specs.Clocks.{quiesce}
 use Rattle.rules.specs.Faults.{Env, faultFor}
 use Rattle.rules.specs.Effects.{Effect, endOf, nobody, nextOf, past, one, child, pushed, withHolds, withRegister, withNames, effectOf, repeatOf, spawnedCount, clockedCount, writtenCount, Spawned, Write, keep, make, offer, reset, Stored, withStores}
 

@@ -22,7 +22,6 @@ use Rattle.rules.specs.State.{isEnded, isAtBarrier, top}
 use Rattle.rules.specs.Clocks.{pass, quiesce}
 use Rattle.rules.specs.Tree.{here, isFinish, rest}
 use Rattle.rules.specs.Effects.{Spawned, nobody, one, Effect, past, pushed, endOf, again, popped, stopped, nextOf, withHolds, envOf, child}
-use Rattle.rules.specs.Steps.{at}
 use Rattle.rules.proofs.Tests.{decide, true-false}
 use Rattle.rules.proofs.Sums.{times-pred}
 use Rattle.rules.proofs.Shapes.{isNext, meets, Kind, ends, forks, opens, loops, moves, born, OfChild}

@@ -18,10 +18,9 @@ use Rattle.rules.specs.declared.state.Activity.{Activity}
 use Rattle.rules.specs.declared.state.State.{State}
 use Rattle.program.specs.Bodies.{Program}
 use Rattle.rules.specs.State.{hold, noHold, act}
-use Rattle.rules.specs.Clocks.{holds, isHeld, isLive, behind, isBehind, quiesce, quiesced, pass, quiescent}
+use Rattle.rules.specs.Clocks.{isHeld, isLive, behind, isBehind, quiesce, quiesced, pass, quiescent}
 use Rattle.rules.specs.Faults.{bit, Env, faultFor}
 use Rattle.rules.specs.Effects.{lent, Effect, child, applied}
-use Rattle.rules.specs.Steps.{at}
 use Rattle.rules.proofs.Tests.{or-true, and-true, and-intro, or-left, or-right, true-false, not-false, not-true, decide}
 use Rattle.rules.proofs.Search.{someBelow-witness, someBelow-intro}
 use Rattle.rules.proofs.Shapes.{born, Kind, OfChild, of-child}

@@ -8,10 +8,6 @@ use native.Mathlib.Nat.{not-suc-le-zero}
 use mathlib.Core.Bool.{Bool, true, false}
 use mathlib.Core.Path.{_≡_}
 use mathlib.Core.Logic.{_⊎_, inl, inr}
-use Rattle.program.specs.Command.{held, inside}
-use Rattle.rules.specs.Clocks.{holds, behind, quiesced}
-use Rattle.rules.specs.Tree.{descends}
-use Rattle.rules.specs.Steps.{at, base}
 
 -- What the argument looks at: n activities, a hold for each activity and name, the tree, and the count when each open FINISH body began.
 pub record View : Type 1 where

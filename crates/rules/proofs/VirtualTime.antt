@@ -22,7 +22,6 @@ use Rattle.rules.specs.State.{isEnded, hold, isAtBarrier, noHold, top}
 use Rattle.rules.specs.Clocks.{isHeld, isLive, quiesce, quiesced, pass, revived}
 use Rattle.rules.specs.Faults.{Env, faultFor}
 use Rattle.rules.specs.Effects.{stopped, endOf, again, popped, past, nextOf, clockedCount, Effect, pushed, child}
-use Rattle.rules.specs.Steps.{base, at}
 use Rattle.rules.proofs.Tests.{decide, true-false}
 use Rattle.rules.proofs.Sums.{upd, upd-other, upd-same}
 use Rattle.rules.proofs.Shapes.{isNext, Alike, Replaced, dropped, resumed, created, Reheld, kept, replaced, Kind, ends, meets, forks, opens, loops, moves, born, OfChild}

@@ -14,12 +14,12 @@ use Rattle.rules.specs.declared.state.Activity.{Activity}
 use Rattle.rules.specs.declared.state.State.{State}
 use Rattle.program.specs.Bodies.{Program}
 use Rattle.rules.specs.State.{act, ended, isAtBarrier, hold, top, noHold}
-use Rattle.rules.specs.Clocks.{holds, isLive, quiesced, behind, isBehind, holdsSome}
+use Rattle.rules.specs.Clocks.{holds, isLive, behind, isBehind, holdsSome}
 use Rattle.rules.specs.Tree.{descends, inside, inFinishBody}
 use Rattle.rules.specs.Faults.{Env, readFault, unbound, numberUnder, faultFor}
 use Rattle.rules.specs.Waiting.{behindOf, unendedInside, unendedBelow, waitsFor, waitsAt}
 use Rattle.rules.specs.Effects.{envOf}
-use Rattle.rules.specs.Steps.{at, base, fault, waits}
+use Rattle.rules.specs.Steps.{at, fault, waits}
 use Rattle.rules.proofs.Tests.{and-true, true-false, not-true, decide}
 use Rattle.rules.proofs.Search.{someBelow-witness, someBelow-none}
 use Rattle.rules.proofs.Applied.{Bounded}
