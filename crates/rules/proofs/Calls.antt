@@ -51,7 +51,8 @@ unfolding advance
 advance-refused l p s i h = rw (ne-eqb _ _ h)
 
 -- A step within the limits.
-pub advance-taken : (l : Limits) (p : Program) (s : State) (i : ℕ) → refusal p s i ≡ 0 → exceeds l p s (effect p s i) ≡ false → advance l p s i ≡ takenAs s i (effect p s i)
+pub advance-taken : (l : Limits) (p : Program) (s : State) (i : ℕ) → refusal p s i ≡ 0 → exceeds l p s (effect p s i) ≡ false
+    → advance l p s i ≡ takenAs s i (effect p s i)
 unfolding advance
 advance-taken l p s i h e = rw (eq-eqb _ _ h, e)
 
@@ -62,7 +63,8 @@ unfolding step stepWith unfit
 step-advance l t s i n w = rw (n, w)
 
 -- Numbers 1 to 13 do not apply there.
-pub unfit-none : (l : Limits) (t : List ℕ) (s : State) → numberOf (l .work) t ≡ 0 → wellFormed (l .phase) (programOf t) s ≡ true → unfit l (numberOf (l .work) t) (programOf t) s ≡ 0
+pub unfit-none : (l : Limits) (t : List ℕ) (s : State) → numberOf (l .work) t ≡ 0 → wellFormed (l .phase) (programOf t) s ≡ true
+    → unfit l (numberOf (l .work) t) (programOf t) s ≡ 0
 unfolding unfit
 unfit-none l t s n w = rw (n, w)
 

@@ -160,13 +160,29 @@ module _ (p : Program) (s : State) (i : ℕ) (e : Effect) (n : Nested p s) (o : 
 
       go : Held (s .clocks) (act s i) (hold (e .self) k) → Holder i k
       go (before k′ g q) =
-          stood (record { rep = i; there = o .present; slot = k′; has = g; same = rw me q; to = λ w j f r. inside-old w j i (o .present) ∙ r; from = λ w j r. sym (inside-old w j i (o .present)) ∙ r })
+          stood (record {
+            rep = i;
+            there = o .present;
+            slot = k′;
+            has = g;
+            same = rw me q;
+            to = λ w j f r. inside-old w j i (o .present) ∙ r;
+            from = λ w j r. sym (inside-old w j i (o .present)) ∙ r;
+          })
       go (fresh q) = maker refl (rw me q)
 
   -- Of another that was there.
   holder-old : (x k : ℕ) → x < s .activities → (x ≡ i → ⊥) → holds (act (applied s i e) x) k ≡ true → Holder x k
   holder-old x k l d h =
-      stood (record { rep = x; there = l; slot = k; has = rw old at h; same = rw old; to = λ w j f r. inside-old w j x l ∙ r; from = λ w j r. sym (inside-old w j x l) ∙ r })
+      stood (record {
+        rep = x;
+        there = l;
+        slot = k;
+        has = rw old at h;
+        same = rw old;
+        to = λ w j f r. inside-old w j x l ∙ r;
+        from = λ w j r. sym (inside-old w j x l) ∙ r;
+      })
     where
       old : act (applied s i e) x ≡ act s x
       old = act-old s i e x l d
@@ -175,7 +191,15 @@ module _ (p : Program) (s : State) (i : ℕ) (e : Effect) (n : Nested p s) (o : 
   holder-child : (c : Activity) → e .spawned ≡ one c → (k : ℕ) → holds (act (applied s i e) (s .activities)) k ≡ true → Holder (s .activities) k
   holder-child c q k h =
       let g = its c q .lent k (rw (is-child c q) at h) in
-      stood (record { rep = i; there = o .present; slot = k; has = g .1; same = rw (is-child c q) (g .2); to = λ w j f r. into w j f (g .0) (child-inside c q w j r); from = child-inside-on c q })
+      stood (record {
+        rep = i;
+        there = o .present;
+        slot = k;
+        has = g .1;
+        same = rw (is-child c q) (g .2);
+        to = λ w j f r. into w j f (g .0) (child-inside c q w j r);
+        from = child-inside-on c q;
+      })
     where
       into : (w j : ℕ) → (w ≡ i → Was p s (act s i) e j) → ((j : ℕ) → Open p (act s i .depth) (act s i .frames) j → ⊥)
           → ((w ≡ i) × (j ≤ s .activities)) ⊎ (inside s w j i ≡ true) → inside s w j i ≡ true
@@ -206,7 +230,8 @@ module _ (p : Program) (s : State) (i : ℕ) (e : Effect) (n : Nested p s) (o : 
       go (open-before m) (stood a) (stood b) =
           b .from w j
           (n .contained w j lw u m (a .rep) (a .slot) (b .rep) (b .slot) (a .there) (b .there) (a .has) (b .has) (b .same ∙ c ∙ sym (a .same)) (a .to w j f h))
-      go (begun-now m q) (stood a) (stood b) = absurd (omega (arith, inside-first s (n .bounded .count) (n .falls) w j (a .rep) (a .there) (a .to w j f h), a .there))
+      go (begun-now m q) (stood a) (stood b) =
+          absurd (omega (arith, inside-first s (n .bounded .count) (n .falls) w j (a .rep) (a .there) (a .to w j f h), a .there))
       go m (stood a) (maker q r) = absurd (omega (arith, n .clocked (a .rep) (a .slot) (a .there) (a .has), a .same ∙ sym c ∙ r))
       go m (maker q r) (stood b) = absurd (omega (arith, n .clocked (b .rep) (b .slot) (b .there) (b .has), b .same ∙ c ∙ r))
       go m (maker q r) (maker q′ r′) = rw q′ (rw q at h)

@@ -23,7 +23,7 @@ use Rattle.rules.specs.Faults.{bit}
 use Rattle.rules.specs.Effects.{applied, envOf}
 use Rattle.rules.specs.WellFormed.{wellFormed}
 use Rattle.rules.specs.Steps.{Limits, startState, at, refusal, exceeds, effect, step, fault, ready, canStep, waits}
-use Rattle.rules.specs.Runs.{taken, run, runFrom, answersFrom, answers, isAccepted, isFault, someFault, finished}
+use Rattle.rules.specs.Runs.{taken, run, runFrom, answers, answersFrom, isAccepted, isFault, someFault, finished}
 use Rattle.rules.specs.Demand3.{isOfRun, allOfRun, Demand3}
 use Rattle.rules.proofs.Tests.{decide, cond-zero, and-intro, true-false}
 use Rattle.rules.proofs.Search.{allBelow-intro, allBelow-at}
@@ -207,7 +207,9 @@ module _ (l : Limits) (t : List ℕ) (w : l .work ≤ l .phase) (ok : Accepted (
           let u = doing-work p ok (limits .activities) s (g .reached) i (o .there) (o .runs) in
           let q = no-fault (o .runs) (kind p (envOf s) i (act s i) (at p s i .command) (at p s i .inner)) in
           let m = steps-applied s i (doing p s i) in
-          subst P (sym e) (subst (λ v. A (b || v) (applied s i (doing p s i))) (sym q) (subst (λ v. A v (applied s i (doing p s i))) (sym (keep b)) (same b (applied s i (doing p s i)) (omega arith) a)))
+          subst P (sym e)
+          (subst (λ v. A (b || v) (applied s i (doing p s i))) (sym q)
+          (subst (λ v. A v (applied s i (doing p s i))) (sym (keep b)) (same b (applied s i (doing p s i)) (omega arith) a)))
       go (faulted r f e) =
           let o = goes p s i r in
           let u = failed-work p ok (limits .activities) s (g .reached) i (o .there) (o .runs) f in

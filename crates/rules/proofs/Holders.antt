@@ -63,7 +63,8 @@ each-none P q n k = subst P (sym (getD-none n k)) q
 
 -- What a child gets: each hold of a bit of the mask, live, and nothing else.
 pub each-lent : (P Q : Hold → Type 0) → Q noHold → (m j : ℕ) (l : List Hold)
-    → ((k : ℕ) → bit m (j + k) ≡ true → P (getD l k noHold) → k < length l → Q (record { phase = getD l k noHold .phase; clock = getD l k noHold .clock; registration = Live }))
+    → ((k : ℕ) → bit m (j + k) ≡ true → P (getD l k noHold) → k < length l
+    → Q (record { phase = getD l k noHold .phase; clock = getD l k noHold .clock; registration = Live }))
     → EachHold P l → EachHold Q (lent m j l)
 unfolding EachHold lent
 each-lent P Q q m j [] g p k = q
@@ -123,7 +124,8 @@ lends p e i a b m f =
     let u = cond-zero (ltb 0 m && inOwnFinish p a) 2 _ f in
     let v = cond-zero (lendsUnheld a m) 0 _ (u .1) in
     let w = cond-zero (lendsQuiesced a m) 1 0 (v .1) in
-    let held : (k : ℕ) → k < 8 → bit m k ≡ true → holds a k ≡ true = λ k l q. and-not (bit m k) (holds a k) (someBelow-none 8 (λ k. bit m k && not (holds a k)) (v .0) k l) q in
+    let held : (k : ℕ) → k < 8 → bit m k ≡ true → holds a k ≡ true
+    = λ k l q. and-not (bit m k) (holds a k) (someBelow-none 8 (λ k. bit m k && not (holds a k)) (v .0) k l) q in
     record {
       outside = λ k q. and-false (ltb 0 m) (inOwnFinish p a) (u .0) (lt-ltb 0 m (bit-some m k q));
       held = held;

@@ -20,7 +20,7 @@ use Rattle.rules.specs.Tree.{here, rest, nextOffset}
 use Rattle.rules.specs.Effects.{past, again, pushed, popped}
 use Rattle.rules.proofs.Sums.{sumBelow, sumBelow-same, times-pred, sumBelow-zero}
 use Rattle.rules.proofs.Bodies.{Placed, onward, moved-rest, begin, begun-rest}
-use Rattle.rules.proofs.Stack.{begins, Stack, place, past-top, past-under, rerun, again-under, again-top, push-under, push-top, left, left-under, left-stack, left-goes, lone}
+use Rattle.rules.proofs.Stack.{begins, Stack, past-top, place, past-under, rerun, again-under, again-top, push-under, push-top, left, left-under, left-stack, left-goes, lone}
 
 module _ (own : Command → ℕ) where
   -- A command's own weight, and that of what it runs.
@@ -126,7 +126,8 @@ module _ (own : Command → ℕ) where
     unfolding pendFrame here
     frame-begins f l q =
         let b = begin p ok (f .body) l in
-        let whole : sumOver own (tally own p) (b .head ∷ b .more) ≡ tally own p (f .body) = subst (λ k. sumOver own (tally own p) k ≡ tally own p (f .body)) (b .whole) (tally-body (f .body) l) in
+        let whole : sumOver own (tally own p) (b .head ∷ b .more) ≡ tally own p (f .body)
+        = subst (λ k. sumOver own (tally own p) k ≡ tally own p (f .body)) (b .whole) (tally-body (f .body) l) in
         rw (begun-rest p ok f b q) (omega (arith, whole, sum-cons (tally own p) (b .head) (b .more)))
 
     -- The top frame apart.
@@ -152,7 +153,8 @@ module _ (own : Command → ℕ) where
       unfolding past
       past-pend g =
           let x = pend-running p late (past p a) e n in
-          let m = frame-moves (top a) (place p ok a s) g (top (past p a)) (ap (λ f. f .body) (past-top p ok a s)) (ap (λ f. f .offset) (past-top p ok a s)) (ap (λ f. f .runs) (past-top p ok a s)) in
+          let t = past-top p ok a s in
+          let m = frame-moves (top a) (place p ok a s) g (top (past p a)) (ap (λ f. f .body) t) (ap (λ f. f .offset) t) (ap (λ f. f .runs) t) in
           let k = frames-top a (past p a) (s .deep) refl (past-under p ok a s) in
           omega arith
 
@@ -163,7 +165,8 @@ module _ (own : Command → ℕ) where
           let x = pend-running p late (again a) e n in
           let m = frame-begins (rerun a) (place p ok a s .listed) refl in
           let k = frames-top a (again a) (s .deep) refl (again-under p ok a s) in
-          let q : pendFrame p (top (again a)) + cost (tally own p) (here p (top (again a)) .command) ≡ pendFrame p (rerun a) + cost (tally own p) (here p (rerun a) .command)
+          let q : pendFrame p (top (again a)) + cost (tally own p) (here p (top (again a)) .command)
+          ≡ pendFrame p (rerun a) + cost (tally own p) (here p (rerun a) .command)
           = ap (λ f. pendFrame p f + cost (tally own p) (here p f .command)) (again-top p ok a s) in
           let u = frame-last (top a) last in
           let v = times-pred (top a .runs - 1) (tally own p (top a .body)) (omega arith) in
@@ -179,8 +182,10 @@ module _ (own : Command → ℕ) where
           let m = frames-sum (pushed a b k c) (omega arith) in
           let over : a .depth + 1 - 1 ≡ a .depth = omega arith in
           let r : sumBelow (pushed a b k c .depth - 1) (λ d. pendFrame p (frame (pushed a b k c) d)) ≡ sumBelow (a .depth) (λ d. pendFrame p (frame a d))
-          = ap (λ n. sumBelow n (λ d. pendFrame p (frame (pushed a b k c) d))) over ∙ sumBelow-same (a .depth) _ _ (λ d l. ap (pendFrame p) (push-under p ok a s b k c lo hi d l)) in
-          let u : pendFrame p (top (pushed a b k c)) + cost (tally own p) (here p (top (pushed a b k c)) .command) ≡ pendFrame p f + cost (tally own p) (here p f .command)
+          = ap (λ n. sumBelow n (λ d. pendFrame p (frame (pushed a b k c) d))) over
+          ∙ sumBelow-same (a .depth) _ _ (λ d l. ap (pendFrame p) (push-under p ok a s b k c lo hi d l)) in
+          let u : pendFrame p (top (pushed a b k c)) + cost (tally own p) (here p (top (pushed a b k c)) .command)
+          ≡ pendFrame p f + cost (tally own p) (here p f .command)
           = ap (λ f. pendFrame p f + cost (tally own p) (here p f .command)) (push-top p ok a s b k c lo hi) in
           omega arith
 
@@ -189,7 +194,8 @@ module _ (own : Command → ℕ) where
     unfolding left frames
     left-frames a s deep =
         let k = frames-sum a (omega arith) in
-        let r = sumBelow-same (a .depth - 1) (λ d. pendFrame p (frame (left a) d)) (λ d. pendFrame p (frame a d)) (λ d l. ap (pendFrame p) (left-under p ok a s deep d l)) in
+        let r = sumBelow-same (a .depth - 1) (λ d. pendFrame p (frame (left a) d)) (λ d. pendFrame p (frame a d))
+        (λ d l. ap (pendFrame p) (left-under p ok a s deep d l)) in
         omega arith
 
     -- The last run is done: its END is spent, and the body below has gone on.
@@ -210,12 +216,14 @@ module _ (own : Command → ℕ) where
         let k = frames-sum a (s .deep) in
         let u = frame-last (top a) last in
         let z : a .depth - 1 ≡ 0 = omega arith in
-        let v : (top a .runs - 1) * tally own p (top a .body) ≡ 0 = ap (λ m. (m - 1) * tally own p (top a .body)) (ap (λ m. frame a m .runs) z ∙ s .bottom) ∙ zero-mul _ in
+        let v : (top a .runs - 1) * tally own p (top a .body) ≡ 0
+        = ap (λ m. (m - 1) * tally own p (top a .body)) (ap (λ m. frame a m .runs) z ∙ s .bottom) ∙ zero-mul _ in
         let y = sumBelow-zero (λ d. pendFrame p (frame a d)) (a .depth - 1) z in
         omega arith
 
     -- What is pending of a spawned activity: its body's tally.
-    pub lone-pend : (late : ℕ) (c : Activity) (f : Frame) → c .depth ≡ 1 → c .frames ≡ lone f → c .status ≡ Running → f .body < length p → f .offset ≡ 0 → f .runs ≡ 0
+    pub lone-pend : (late : ℕ) (c : Activity) (f : Frame) → c .depth ≡ 1 → c .frames ≡ lone f → c .status ≡ Running → f .body < length p
+        → f .offset ≡ 0 → f .runs ≡ 0
         → pend p late c ≡ tally own p (f .body)
     unfolding sumBelow frames
     lone-pend late c f d fs r l z n =

@@ -129,7 +129,9 @@ total-applied own p late s z i h e f = go (e .spawned) refl
 
     core : sumBelow (s .activities) (λ x. P (act (applied s i e) x)) + P (act s i) ≡ sumBelow (s .activities) (λ x. P (act s x)) + P (e .self)
     core =
-        subst (λ y. sumBelow (s .activities) (λ x. P (act (applied s i e) x)) + P (act s i) ≡ sumBelow (s .activities) (λ x. P (act s x)) + P y) (act-self s z i h e f)
+        subst
+        (λ y. sumBelow (s .activities) (λ x. P (act (applied s i e) x)) + P (act s i) ≡ sumBelow (s .activities) (λ x. P (act s x)) + P y)
+        (act-self s z i h e f)
         (sumBelow-one (s .activities) (λ x. P (act (applied s i e) x)) (λ x. P (act s x)) i h (λ k l n. ap P (act-old s i e k l n)))
 
     go : (ch : Spawned) → e .spawned ≡ ch
@@ -196,8 +198,8 @@ module _ (p : Program) (s : State) (vt base : ℕ → ℕ) (v : Inv p s vt base)
     inv-applied =
         record {
           bounded = bounded-applied s z i e f zs zc;
-          fine = each s z i h e f (λ x a. Fine (clockedCount (s .clocks) (e .clocked)) base′ (vt′ x) x a)
-              (λ x l d. subst (λ n. Fine (clockedCount (s .clocks) (e .clocked)) base′ n x (act s x)) (sym (vs x l d)) (fine-on (s .clocks) (clockedCount (s .clocks) (e .clocked)) base base′ (vt x) x (act s x) (grows (e .clocked)) bs (v .fine x l))) fs fc;
+          fine = each s z i h e f (λ x a. Fine made base′ (vt′ x) x a)
+              (λ x l d. subst (λ n. Fine made base′ n x (act s x)) (sym (vs x l d)) (fine-on (s .clocks) made base base′ (vt x) x (act s x) (grows (e .clocked)) bs (v .fine x l))) fs fc;
           slow = each s z i h e f (λ x a. vt′ x ≤ s .steps + 1) (λ x l d. rw (vs x l d) (omega (arith, v .slow x l))) sl sn;
           stacks = each s z i h e f (λ x a. isEnded (a .status) ≡ false → Stack p (a .depth) (a .frames)) (λ x l d. v .stacks x l) ss
               (of-child _ (λ c. isEnded (c .status) ≡ false → Stack p (c .depth) (c .frames)) (λ c q z. q .0) (e .spawned) sc);
@@ -207,6 +209,9 @@ module _ (p : Program) (s : State) (vt base : ℕ → ℕ) (v : Inv p s vt base)
           contained = contained′ p s i e nested o;
         }
       where
+        made : ℕ
+        made = clockedCount (s .clocks) (e .clocked)
+
         z : Bounded s
         z = v .bounded
 
@@ -343,7 +348,9 @@ module _ (p : Program) (ok : Accepted p) (few : activitiesOf p ≤ 64) (s : Stat
 
   -- The invariant after it.
   doing-inv : fault p s i ≡ 0
-      → Inv p (applied s i (doing p s i)) (upd (upd (g .vt) (s .activities) (g .vt i)) i (later (g .vt i) (at p s i .command) (isAtBarrier (act s i .status)))) (upd (g .base) (s .clocks) (g .vt i))
+      → Inv p (applied s i (doing p s i))
+      (upd (upd (g .vt) (s .activities) (g .vt i)) i (later (g .vt i) (at p s i .command) (isAtBarrier (act s i .status))))
+      (upd (g .base) (s .clocks) (g .vt i))
   unfolding at fault
   doing-inv f =
       inv-applied p s (g .vt) (g .base) (g .inv) i (doing p s i)
@@ -359,8 +366,10 @@ module _ (p : Program) (ok : Accepted p) (few : activitiesOf p ≤ 64) (s : Stat
       vt′ base′ (λ c l. upd-other (g .base) (s .clocks) (g .vt i) c (λ z. omega arith))
       (λ x l n. upd-other (upd (g .vt) (s .activities) (g .vt i)) i _ x n ∙ upd-other (g .vt) (s .activities) (g .vt i) x (λ z. omega arith))
       (size-self p size its) (size-born p size its)
-      (subst (λ v. Fine (clockedCount (s .clocks) (doing p s i .clocked)) base′ v i (doing p s i .self)) (sym now) (fine-self p (envOf s) (g .base) (g .vt i) i (act s i) (g .inv .fine i h) r (standing p ok s i (act s i) st r (g .inv .meets i h)) its))
-      (subst (λ v. OfChild (Fine (clockedCount (s .clocks) (doing p s i .clocked)) base′ v (s .activities)) (doing p s i .spawned)) (sym born-time) (fine-born p (envOf s) (g .base) (g .vt i) i (act s i) (g .inv .fine i h) r (clockedCount (s .clocks) (doing p s i .clocked)) (s .activities) (grows′ (doing p s i .clocked)) h (size .holds8) f its))
+      (subst (λ v. Fine made′ base′ v i (doing p s i .self)) (sym now)
+      (fine-self p (envOf s) (g .base) (g .vt i) i (act s i) (g .inv .fine i h) r (standing p ok s i (act s i) st r (g .inv .meets i h)) its))
+      (subst (λ v. OfChild (Fine made′ base′ v (s .activities)) (doing p s i .spawned)) (sym born-time)
+      (fine-born p (envOf s) (g .base) (g .vt i) i (act s i) (g .inv .fine i h) r made′ (s .activities) (grows′ (doing p s i .clocked)) h (size .holds8) f its))
       (left .stack) (left .meets) (stack-born p ok s i (act s i) st r (g .inv .meets i h) (at p s i .command) refl its)
       (rw now (omega (arith, later-slow (g .vt i) (at p s i .command) (isAtBarrier (act s i .status)), g .inv .slow i h)))
       (any-child (vt′ (s .activities) ≤ s .steps + 1) (rw born-time (omega (arith, g .inv .slow i h))) (doing p s i .spawned))
@@ -370,6 +379,9 @@ module _ (p : Program) (ok : Accepted p) (few : activitiesOf p ≤ 64) (s : Stat
 
       left : Left p s (act s i) (doing p s i)
       left = left-by p ok s i (act s i) st r (g .inv .meets i h) (at p s i .command) refl its
+
+      made′ : ℕ
+      made′ = clockedCount (s .clocks) (doing p s i .clocked)
 
       vt′ : ℕ → ℕ
       vt′ = upd (upd (g .vt) (s .activities) (g .vt i)) i (later (g .vt i) (at p s i .command) (isAtBarrier (act s i .status)))
@@ -525,10 +537,17 @@ pub never-exceeds : (l : Limits) (p : Program) (ok : Accepted p) → Within l p 
     → exceeds l p s (effect p s i) ≡ false
 unfolding exceeds EachHold
 never-exceeds l p ok w s g i e =
-    or-false _ _ (and-less (spawns (x .spawned)) 64 (s .activities) (λ q. omega (arith, spawns-one (x .spawned) q, after .activities, w .activities, activities-applied s i x)))
-    (or-false _ _ (and-less (x .clocked) 16 (s .clocks) (λ q. omega (arith, clocks-one (x .clocked) q, after .clocks, w .clocks, clocks-applied s i x)))
-    (or-false _ _ (and-less (makes (x .write)) 16 (s .accumulators) (λ q. omega (arith, makes-one (x .write) q, after .accumulators, w .accumulators, accumulators-applied s i x)))
-    (or-false _ _ (someBelow-all 8 (λ k. ltb (l .phase) (hold (x .self) k .phase)) (λ k b q. absurd (omega (arith, ltb-true (l .phase) (hold (x .self) k .phase) q, phase k, w .phase, w .work, after .work, steps-applied s i x, after .inv .slow i there))))
+    or-false _ _
+    (and-less (spawns (x .spawned)) 64 (s .activities)
+    (λ q. omega (arith, spawns-one (x .spawned) q, after .activities, w .activities, activities-applied s i x)))
+    (or-false _ _
+    (and-less (x .clocked) 16 (s .clocks) (λ q. omega (arith, clocks-one (x .clocked) q, after .clocks, w .clocks, clocks-applied s i x)))
+    (or-false _ _
+    (and-less (makes (x .write)) 16 (s .accumulators)
+    (λ q. omega (arith, makes-one (x .write) q, after .accumulators, w .accumulators, accumulators-applied s i x)))
+    (or-false _ _
+    (someBelow-all 8 (λ k. ltb (l .phase) (hold (x .self) k .phase))
+    (λ k b q. absurd (low k (ltb-true (l .phase) (hold (x .self) k .phase) q))))
     (lt-leb (workOf p) (s .steps) (omega (arith, after .work, steps-applied s i x))))))
   where
     x : Effect
@@ -548,6 +567,9 @@ never-exceeds l p ok w s g i e =
 
     phase : (k : ℕ) → hold (effect p s i .self) k .phase ≤ after .vt i
     phase k = subst (λ a. hold a k .phase ≤ after .vt i) me (phase-slow (after .inv .fine i there .timed k))
+
+    low : (k : ℕ) → l .phase < hold (effect p s i .self) k .phase → ⊥
+    low k q = omega (arith, phase k, w .phase, w .work, after .work, steps-applied s i (effect p s i), after .inv .slow i there)
 
 -- A phase is at most the steps taken.
 pub phase-steps : (p : Program) (s : State) → Reached p s → (x k : ℕ) → x < s .activities → hold (act s x) k .phase ≤ s .steps

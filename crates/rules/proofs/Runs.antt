@@ -38,7 +38,8 @@ module _ (l : Limits) (t : List ℕ) (w : l .work ≤ l .phase) (ok : Accepted (
   ready-or-done : (s : State) → Good l t s → (Witness 64 (canStep (programOf t) s)) ⊎ (finished s ≡ true)
   ready-or-done s g = go (decide (someBelow 64 (canStep (programOf t) s)))
     where
-      go : (someBelow 64 (canStep (programOf t) s) ≡ true) ⊎ (someBelow 64 (canStep (programOf t) s) ≡ false) → (Witness 64 (canStep (programOf t) s)) ⊎ (finished s ≡ true)
+      go : (someBelow 64 (canStep (programOf t) s) ≡ true) ⊎ (someBelow 64 (canStep (programOf t) s) ≡ false)
+          → (Witness 64 (canStep (programOf t) s)) ⊎ (finished s ≡ true)
       go (inl e) = inl (someBelow-witness 64 (canStep (programOf t) s) e)
       go (inr e) =
           inr (alive l t w ok n fitness s g

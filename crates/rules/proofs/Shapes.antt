@@ -58,7 +58,8 @@ pub data Kind (p : Program) (e : Env) (i : ℕ) (a : Activity) (c : Command) (x 
   -- REPEAT of at least one run
   loops : (n b : ℕ) → c ≡ Repeat (suc n) b → x .self ≡ pushed a b (suc n) 0 → x .spawned ≡ nobody → Kind p e i a c x
   -- All others: the activity goes on after its command.
-  moves : (b : Activity) → isEnd c ≡ false → isNext c ≡ false → times c ≡ 0 → Alike (e .clock) (x .clocked) a b → x .self ≡ past p b → x .spawned ≡ nobody → Kind p e i a c x
+  moves : (b : Activity) → isEnd c ≡ false → isNext c ≡ false → times c ≡ 0 → Alike (e .clock) (x .clocked) a b → x .self ≡ past p b
+      → x .spawned ≡ nobody → Kind p e i a c x
 
 -- The activity itself, its holds, its register and its names changed.
 alike-holds : {made : ℕ} {clocked : Bool} {a : Activity} {l : List Hold} → Reheld made clocked (a .holds) l → Alike made clocked a (withHolds a (a .status) l)

@@ -96,7 +96,8 @@ module _ (p : Program) (ok : Accepted p) (s : State) (i : ℕ) (a : Activity) (s
     unfolding endOf again popped past Opening
     left-end l h x xs = go (leb (a .depth) 1) refl (ltb 1 (top a .runs)) refl xs
       where
-        go : (y : Bool) → leb (a .depth) 1 ≡ y → (z : Bool) → ltb 1 (top a .runs) ≡ z → x .self ≡ cond y (stopped a Ended) (cond z (again a) (popped p a)) → Left p s a x
+        go : (y : Bool) → leb (a .depth) 1 ≡ y → (z : Bool) → ltb 1 (top a .runs) ≡ z
+            → x .self ≡ cond y (stopped a Ended) (cond z (again a) (popped p a)) → Left p s a x
         go true d z r xs =
             record {
               stack = λ h. absurd (true-false true refl (rw xs at h));
@@ -132,7 +133,9 @@ module _ (p : Program) (ok : Accepted p) (s : State) (i : ℕ) (a : Activity) (s
     left-by {x} (ends z xs n) = left-end (rw z) (rw z) x xs
     left-by {x} (meets z xs n) = left-next (rw z) (rw z) (isAtBarrier (a .status)) x xs
     left-by {x} (forks b m z xs n) = left-past a refl refl (standing (rw (q, z))) (rw z) x xs
-    left-by {x} (opens b z xs n) = let l = subst (λ c. (top a .body < named c) × (named c < length p)) z (names-above (rw z)) in left-push b 0 (s .activities) (l .0) (l .1) (rw z) (rw z) (λ f. refl) x xs n
+    left-by {x} (opens b z xs n) =
+        let l = subst (λ c. (top a .body < named c) × (named c < length p)) z (names-above (rw z)) in
+        left-push b 0 (s .activities) (l .0) (l .1) (rw z) (rw z) (λ f. refl) x xs n
     left-by {x} (loops k b z xs n) =
         let l = subst (λ c. (top a .body < named c) × (named c < length p)) z (names-above (rw z)) in
         left-push b (suc k) 0 (l .0) (l .1) (rw z) (rw z) (λ f. absurd (true-false false (rw z at f) refl)) x xs n
@@ -143,7 +146,9 @@ module _ (p : Program) (ok : Accepted p) (s : State) (i : ℕ) (a : Activity) (s
     unfolding child names named opcode rowOf rowAt rows operandsOf
     stack-born k =
         born (λ b. Stack p (b .depth) (b .frames) × (isAtBarrier (b .status) ≡ false))
-        (λ b m z. (stack-lone p ok (record { offset = 0; body = b; runs = 0; first = 0 }) (subst (λ c. named c < length p) z (names-above (rw z) .1)) refl refl, refl)) k
+        (λ b m z.
+        (stack-lone p ok (record { offset = 0; body = b; runs = 0; first = 0 }) (subst (λ c. named c < length p) z (names-above (rw z) .1)) refl refl, refl))
+        k
 
     -- WHAT IS PENDING
 
@@ -196,13 +201,13 @@ module _ (p : Program) (ok : Accepted p) (s : State) (i : ℕ) (a : Activity) (s
       next-spends z l false h =
           let x : pend own p late a ≡ frames own p a + (own Next + 0 * tally own p (named Next))
           = pend-running own p late a u h ∙ ap (λ o. frames own p a + cost own (tally own p) o) (q ∙ z) in
-          let y : pend own p late (withHolds a AtBarrier (map quiesce (a .holds))) ≡ frames own p (withHolds a AtBarrier (map quiesce (a .holds))) + late = pend-met own p late (withHolds a AtBarrier (map quiesce (a .holds))) refl refl in
-          let w : frames own p (withHolds a AtBarrier (map quiesce (a .holds))) ≡ frames own p a = same in
+          let y = pend-met own p late there refl refl in
+          let w : frames own p there ≡ frames own p a = refl in
           let v = zero-mul (tally own p (named Next)) in
           rw z (omega arith)
         where
-          same : frames own p (withHolds a AtBarrier (map quiesce (a .holds))) ≡ frames own p a
-          same = refl
+          there : Activity
+          there = withHolds a AtBarrier (map quiesce (a .holds))
 
       -- A step without a fault lowers what is pending by its weight.
       pub spends : late ≤ own Next → {x : Effect} → Kind p (envOf s) i a c x

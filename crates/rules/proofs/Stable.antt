@@ -130,8 +130,10 @@ module _ (c p : ℕ) where
   quiet-lent m j [] h k b = b
   quiet-lent m j (x ∷ l) h zero b = go (bit m j) refl b
     where
-      go : (v : Bool) → bit m j ≡ v → isBehind c p (cond v (record { phase = x .phase; clock = x .clock; registration = Live }) noHold) ≡ true → isBehind c p x ≡ true
-      go true e b = kept-on x (record { phase = x .phase; clock = x .clock; registration = Live }) (λ q. held (x .registration) live) refl (λ q. inr (refl, λ q. live)) b
+      go : (v : Bool) → bit m j ≡ v → isBehind c p (cond v (record { phase = x .phase; clock = x .clock; registration = Live }) noHold) ≡ true
+          → isBehind c p x ≡ true
+      go true e b =
+          kept-on x (record { phase = x .phase; clock = x .clock; registration = Live }) (λ q. held (x .registration) live) refl (λ q. inr (refl, λ q. live)) b
         where
           live : isLive (x .registration) ≡ true
           live = let z : j + 0 ≡ j = omega arith in h 0 (omega arith) (rw z e)
@@ -190,7 +192,8 @@ module _ (c p : ℕ) where
       was k l =
           each s z i h e f (λ x a. isBehind c p (hold a k) ≡ true → Blocked s) (λ x m d b. record { other = x; there = m; name = k; eight = l; back = b })
           (λ b. record { other = i; there = h; name = k; eight = l; back = q k b })
-          (of-child (λ b. Quiet (act s i .holds) (b .holds)) (λ a. isBehind c p (hold a k) ≡ true → Blocked s) (λ a w b. record { other = i; there = h; name = k; eight = l; back = w k b }) (e .spawned) r)
+          (of-child (λ b. Quiet (act s i .holds) (b .holds)) (λ a. isBehind c p (hold a k) ≡ true → Blocked s)
+          (λ a w b. record { other = i; there = h; name = k; eight = l; back = w k b }) (e .spawned) r)
 
       go : (quiescent (applied s i e) c p ≡ true) ⊎ (quiescent (applied s i e) c p ≡ false) → quiescent (applied s i e) c p ≡ true
       go (inl y) = y

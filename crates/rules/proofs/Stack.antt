@@ -59,7 +59,8 @@ module _ (p : Program) (ok : Accepted p) where
       omega (arith, s .rises (n - 1) h, s .placed (n - 1) h .listed, ok .few)
 
   -- The top replaced.
-  stack-set : (n : ℕ) (fs : List Frame) (f : Frame) → Stack p n fs → Placed p f → f .body ≡ frameAt fs (n - 1) .body → (n ≡ 1 → f .runs ≡ 0) → Stack p n (set fs (n - 1) f)
+  stack-set : (n : ℕ) (fs : List Frame) (f : Frame) → Stack p n fs → Placed p f → f .body ≡ frameAt fs (n - 1) .body → (n ≡ 1 → f .runs ≡ 0)
+      → Stack p n (set fs (n - 1) f)
   stack-set n fs f s q b z =
       record {
         sixteen = length-set fs (n - 1) f ∙ s .sixteen;
@@ -149,9 +150,19 @@ module _ (p : Program) (ok : Accepted p) where
       go : Dec (suc (o .level) ≡ a .depth - 1) → Open p (a .depth) (a .frames) j
       go (yes q) =
           let n : suc (o .level) ≡ b .depth - 1 = omega arith in
-          record { level = o .level; deeper = omega (arith, o .deeper); finish = low; first = ap (λ d. frame a d .first) q ∙ sym f ∙ ap (λ d. frame b d .first) (sym n) ∙ o .first }
+          record {
+            level = o .level;
+            deeper = omega (arith, o .deeper);
+            finish = low;
+            first = ap (λ d. frame a d .first) q ∙ sym f ∙ ap (λ d. frame b d .first) (sym n) ∙ o .first;
+          }
       go (no q) =
-          record { level = o .level; deeper = omega (arith, o .deeper); finish = low; first = ap (λ f. f .first) (sym (g (suc (o .level)) (omega (arith, o .deeper)))) ∙ o .first }
+          record {
+            level = o .level;
+            deeper = omega (arith, o .deeper);
+            finish = low;
+            first = ap (λ f. f .first) (sym (g (suc (o .level)) (omega (arith, o .deeper)))) ∙ o .first;
+          }
 
   -- AN ACTIVITY'S STACK
 
@@ -229,7 +240,9 @@ module _ (p : Program) (ok : Accepted p) where
       -- That is the body's.
       pub push-top : top (pushed a b n c) ≡ begins b n c
       unfolding pushed begins
-      push-top = ap (λ d. getD (set (a .frames) (a .depth) (begins b n c)) d noFrame) over ∙ getD-set-same (a .frames) (a .depth) (begins b n c) noFrame (omega (arith, s .sixteen, space))
+      push-top =
+          ap (λ d. getD (set (a .frames) (a .depth) (begins b n c)) d noFrame) over
+          ∙ getD-set-same (a .frames) (a .depth) (begins b n c) noFrame (omega (arith, s .sixteen, space))
 
       -- The frames under it stay.
       pub push-under : (d : ℕ) → d < a .depth → frame (pushed a b n c) d ≡ frame a d

@@ -87,7 +87,8 @@ module _ (s : View) where
         now-z : s .phase (m .other) (m .name) + base (s .clock y (m .own)) ≡ vt (m .other)
         now-z = rw (m .same) at (ok .time (m .other) (m .name) (m .there) (m .holds))
 
-        go : (s .phase (m .other) (m .name) < s .phase y (m .own)) ⊎ ((s .phase (m .other) (m .name) ≡ s .phase y (m .own)) × (s .live (m .other) (m .name) ≡ true)) → vt (m .other) < vt y
+        go : (s .phase (m .other) (m .name) < s .phase y (m .own)) ⊎ ((s .phase (m .other) (m .name) ≡ s .phase y (m .own)) × (s .live (m .other) (m .name) ≡ true))
+            → vt (m .other) < vt y
         go (inl l) = omega (arith, now-y, now-z)
         go (inr e) = let z : _≡_ {A = ℕ} 0 1 = cc (ok .quiesced (m .other) (m .name) (m .there) b (m .holds), e .1) in omega arith
 

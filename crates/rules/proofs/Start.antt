@@ -9,7 +9,7 @@ use Rattle.rules.specs.declared.state.Activity.{Activity}
 use Rattle.program.specs.Bodies.{Program}
 use Rattle.program.specs.Count.{tally, workOf, activitiesOf, clocksOf, accumulatorsOf, ownActivities, ownClocks, ownAccumulators, ownWork}
 use Rattle.program.proofs.Shape.{Accepted}
-use Rattle.rules.specs.State.{noActivity, noFrames, noFrame, act, absent, isEnded, isAtBarrier, top}
+use Rattle.rules.specs.State.{noActivity, noFrame, noFrames, act, absent, isEnded, isAtBarrier, top}
 use Rattle.rules.specs.Clocks.{holds, isHeld}
 use Rattle.rules.specs.Tree.{here}
 use Rattle.rules.specs.Effects.{withFrames}
@@ -74,7 +74,8 @@ module _ (p : Program) (ok : Accepted p) where
         slow = λ x l. omega arith;
         stacks = only-main (λ x a. isEnded (a .status) ≡ false → Stack p (a .depth) (a .frames)) (λ e. stack-lone p ok noFrame (ok .some) refl refl);
         meets = only-main (λ x a. isAtBarrier (a .status) ≡ true → isNext (here p (top a) .command) ≡ true) (λ e. absurd (true-false false e refl));
-        marked = λ w j l. only-main (λ w a. isEnded (a .status) ≡ false → Open p (a .depth) (a .frames) j → (w < j) × (j ≤ 1)) (λ e o. absurd (omega (arith, o .deeper))) w l;
+        marked = λ w j l.
+            only-main (λ w a. isEnded (a .status) ≡ false → Open p (a .depth) (a .frames) j → (w < j) × (j ≤ 1)) (λ e o. absurd (omega (arith, o .deeper))) w l;
         contained = λ w j lw u m x k y l lx ly hx hy. absurd (no-hold x k lx hx);
       }
 

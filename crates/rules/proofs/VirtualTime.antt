@@ -234,5 +234,10 @@ module _ (p : Program) (e : Env) (base : ℕ → ℕ) (v i : ℕ) (a : Activity)
             falls = λ h. less;
             free = λ q. absurd (true-false false q refl);
             quiet = λ q. absurd (true-false false q refl);
-            timed = each-lent (Timed made base′ v) (Timed made base′ v) (timed-none made base′ v) m 0 (a .holds) (λ k q r h. let w : 0 + k ≡ k = omega arith in let u = lends p e i a b m z .held k (omega arith) (rw w at q) in record { clocked = λ w. r .clocked u; time = λ w. r .time u; vacant = λ w. absurd (true-false true refl w) }) (g .timed);
+            timed = each-lent (Timed made base′ v) (Timed made base′ v) (timed-none made base′ v) m 0 (a .holds)
+                (λ k q r h.
+                let w : 0 + k ≡ k = omega arith in
+                let u = lends p e i a b m z .held k (omega arith) (rw w at q) in
+                record { clocked = λ w. r .clocked u; time = λ w. r .time u; vacant = λ w. absurd (true-false true refl w) })
+                (g .timed);
           }
