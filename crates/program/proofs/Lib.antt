@@ -4,3 +4,5 @@ pub mod ShapeRows
 pub mod ShapeReading
 pub mod ShapeListed
 pub mod ShapeLaws
+pub mod Located
+pub mod LocatedBytes
