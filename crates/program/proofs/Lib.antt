@@ -6,3 +6,4 @@ pub mod ShapeListed
 pub mod ShapeLaws
 pub mod Located
 pub mod LocatedBytes
+pub mod Marks

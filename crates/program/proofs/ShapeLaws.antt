@@ -126,7 +126,7 @@ pub length-program : (t : List ℕ) → length (programOf t) ≡ getD t 0 0
 unfolding programOf
 length-program t = length-bodies (getD t 0 0) (commandsOf t)
 
-body-at : (n b : ℕ) (cs : List Command) → b < n → getD (bodiesOf n cs) b [] ≡ locate 0 0 (firstBody (onwards b cs))
+pub body-at : (n b : ℕ) (cs : List Command) → b < n → getD (bodiesOf n cs) b [] ≡ locate 0 0 (firstBody (onwards b cs))
 unfolding bodiesOf onwards
 body-at zero b cs h = absurd (let y : ⊥ = omega arith in y)
 body-at (suc n) zero cs h = refl

@@ -99,7 +99,7 @@ before zero cs = 0
 before (suc b) cs = bytes (firstBody cs) + before b (afterEnd cs)
 
 -- After END no command belongs to an ATOM.
-left-end : (n i left : ℕ) (c : Command) → Fit n i left c → isEnd c ≡ true → leftAfter left c ≡ 0
+pub left-end : (n i left : ℕ) (c : Command) → Fit n i left c → isEnd c ≡ true → leftAfter left c ≡ 0
 unfolding leftAfter
 left-end n i zero c f e = ended c e .alone
 left-end n i (suc left) c f e = absurd (true-false e (celled c (f .cell (omega arith)) .goes))
