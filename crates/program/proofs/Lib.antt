@@ -7,3 +7,4 @@ pub mod ShapeLaws
 pub mod Located
 pub mod LocatedBytes
 pub mod Marks
+pub mod Tally
