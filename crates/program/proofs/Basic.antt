@@ -1,14 +1,13 @@
 -- Small laws of tests and lists that know nothing of tables.
-use Prim.Native.Nat.{ℕ, zero, suc, _+_, _*_, _-_, _≤_, _<_}
+use Prim.Native.Nat.{ℕ, zero, suc, _-_, _≤_, _<_}
 use native.Mathlib.Omega.{arith}
-use native.Mathlib.Nat.{zero-mul}
 use native.Mathlib.Decide.{ℕ-discrete}
 use mathlib.Core.List.{List, [], _∷_, _++_}
 use mathlib.Core.Bool.{Bool, true, false, cond, _||_, _&&_, not}
-use mathlib.Core.Path.{_≡_, refl, sym, ap, _∙_}
-use lib.ListN.{length, getD, drop, replicate}
+use mathlib.Core.Path.{_≡_, refl, sym, ap}
+use lib.ListN.{getD, drop, replicate}
 use lib.Dec.{eqb}
-use borrow.Author.Tests.{eqb-true, ne-eqb}
+use borrow.Author.Tests.{ne-eqb}
 
 -- TESTS
 
@@ -25,6 +24,7 @@ pub and-true : (a b : Bool) → a && b ≡ true → (a ≡ true) × (b ≡ true)
 and-true true b e = (refl, e)
 and-true false b e = absurd (true-false e refl)
 
+-- And the other way.
 pub and-intro : {a b : Bool} → a ≡ true → b ≡ true → a && b ≡ true
 and-intro p q = rw (p, q)
 

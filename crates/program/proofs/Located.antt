@@ -1,23 +1,17 @@
 -- Finding a command by its offset: what is left of a body from a place on, and where the next command stands.
-use Prim.Native.Nat.{ℕ, zero, suc, _+_, _≤_, _<_}
+use Prim.Native.Nat.{ℕ, _+_, _≤_, _<_}
 use native.Mathlib.Omega.{arith}
 use mathlib.Core.Path.{_≡_, refl, sym, ap, subst₂, _∙_}
-use mathlib.Core.List.{List, [], _∷_}
+use mathlib.Core.List.{[], _∷_}
 use mathlib.Core.Bool.{Bool, true, false, cond, _||_}
 use lib.ListN.{length, getD}
 use lib.Dec.{eqb}
 use borrow.Author.Tests.{eqb-true, eq-eqb, ne-eqb}
-use Rattle.program.specs.Command.{width, isEnd}
+use Rattle.program.specs.Command.{isEnd}
 use Rattle.program.specs.Bodies.{Located, Body, Program, from, isPlace, headOf, tailOf}
-use Rattle.program.specs.Scan.{bytes}
 use Rattle.program.proofs.Basic.{apart, true-false}
 use Rattle.program.proofs.Shape.{Sound, stride, Shaped, Accepted}
-use Rattle.program.proofs.ShapeRows.{width-pos}
-use Rattle.program.proofs.ShapeLaws.{Each}
-
-pub stride-pos : (x : Located) → 0 < stride x
-unfolding stride
-stride-pos x = let w = width-pos (x .command) in omega arith
+use Rattle.program.proofs.ShapeLaws.{Each, stride-pos}
 
 -- PLACES, OF ANY BODY
 
@@ -32,6 +26,7 @@ place-from (x ∷ xs) o e = by (eqb (x .offset) o) (place-from xs o) e
     by true ih e = refl
     by false ih e = ih e
 
+-- And the other way.
 pub from-place : (body : Body) (o : ℕ) {x : Located} {r : Body} → from body o ≡ x ∷ r → isPlace body o ≡ true
 unfolding from isPlace
 from-place [] o e = absurd (apart (cc))
@@ -58,6 +53,7 @@ pub data Onward (n b : ℕ) (x : Located) : Body → Type 0 where
   last : isEnd (x .command) ≡ true → Onward n b x []
   more : {y : Located} {r : Body} → isEnd (x .command) ≡ false → y .offset ≡ x .offset + stride x → Shaped n b (y ∷ r) → Onward n b x (y ∷ r)
 
+-- Of a body of its shape: what may come after its first command, and that command is sound.
 pub onward : {n b : ℕ} {x : Located} (r : Body) → Shaped n b (x ∷ r) → Onward n b x r
 unfolding Shaped
 onward [] h = last (h .1)
@@ -77,6 +73,7 @@ pub record Stands (n b : ℕ) (body : Body) (o : ℕ) (x : Located) (r : Body) :
   pub next : from body (o + stride x) ≡ r
   pub after : headOf body .offset ≤ o
 
+-- Looking for an offset: the first command stands there, before it, or where it ends.
 from-here : (x : Located) (xs : Body) (o : ℕ) → x .offset ≡ o → from (x ∷ xs) o ≡ x ∷ xs
 unfolding from
 from-here x xs o e = rw (eq-eqb (x .offset) o e)
@@ -101,6 +98,7 @@ stands-past {y = y} (more {y = z} {r = s} f g k) e ih =
     let l = w .after in
     record { offset = w .offset; sound = w .sound; shaped = w .shaped; next = from-past y (z ∷ s) _ (omega arith) ∙ w .next; after = omega arith }
 
+-- What is found at an offset stands there.
 pub stands : {n b : ℕ} (body : Body) (o : ℕ) {x : Located} {r : Body} → Shaped n b body → from body o ≡ x ∷ r → Stands n b body o x r
 unfolding from
 stands [] o h e = absurd (apart (cc))
@@ -151,6 +149,7 @@ module _ {p : Program} (ok : Accepted p) (b : ℕ) (h : b < length p) where
     pub found : Stands (length p) b (getD p b []) o x r
     found = stands (getD p b []) o (ok .shaped b h) at
 
+    -- What may come after it.
     pub found-onward : Onward (length p) b x r
     found-onward = onward r (found .shaped)
 

@@ -2,26 +2,26 @@
 use Prim.Native.Nat.{ℕ, zero, suc, _+_, _*_, _-_, _≤_, _<_}
 use native.Mathlib.Omega.{arith}
 use mathlib.Core.Path.{_≡_, refl, sym, ap, _∙_}
-use mathlib.Core.List.{List, [], _∷_, _++_}
-use lib.ListN.{length, getD, drop, replicate, length-append, length-replicate, length-drop}
+use mathlib.Core.List.{List, [], _∷_}
+use lib.ListN.{length, getD, drop, length-append, length-replicate, length-drop}
 use lib.Seq.{drop-drop}
 use Rattle.program.specs.Command.{width}
 use Rattle.program.specs.Reading.{read, commandsOf}
-use Rattle.program.specs.Bodies.{Located, Body, firstBody, afterEnd, programOf, from, headOf, tailOf}
+use Rattle.program.specs.Bodies.{Located, Body, firstBody, afterEnd, programOf, from}
 use Rattle.program.specs.Scan.{scan, bytes, startsFrom, layoutOf}
 use Rattle.program.specs.declared.command.Command.{Command}
 use Rattle.program.specs.declared.command.Command.the-variants.{End}
 use Rattle.program.specs.declared.reading.Reading.the-variants.{Whole}
 use Rattle.program.proofs.Basic.{getD-padded}
-use Rattle.program.proofs.Shape.{stride, Accepted}
 use Rattle.program.proofs.ShapeRows.{width-pos}
 use Rattle.program.proofs.ShapeReading.{known}
 use Rattle.program.proofs.ShapeListed.{before, passes}
-use Rattle.program.proofs.ShapeLaws.{Each, Legible, length-program, body-legible, accepted}
+use Rattle.program.proofs.ShapeLaws.{Legible, length-program, body-legible, accepted}
 use Rattle.program.proofs.Located.{place-from, each-at, start-place, found}
 
 -- THE LAYOUT
 
+-- There is a start for each body, and it lies after the bytes of the bodies before.
 length-from : (n at : ℕ) (cs : List Command) → length (startsFrom n at cs) ≡ n
 unfolding startsFrom
 length-from zero at cs = refl
@@ -54,13 +54,15 @@ start-is t b h = getD-padded (startsFrom (getD t 0 0) 1 (commandsOf t)) (16 - ge
 
 module _ (t : List ℕ) (ok : scan t ≡ 0) (b : ℕ) (h : b < getD t 0 0) where
   -- The same bound, of the program.
-  pub in-program : b < length (programOf t)
+  in-program : b < length (programOf t)
   in-program = rw (length-program t) h
 
   module _ (o : ℕ) {x : Located} {r : Body} (at : from (getD (programOf t) b []) o ≡ x ∷ r) where
+    -- The command is read in the slice from the body's first byte.
     legible-at : Legible (drop (getD (layoutOf t .starts) b 0) t) x
     legible-at = rw (start-is t b h) (each-at (Legible (drop (1 + before b (commandsOf t)) t)) (getD (programOf t) b []) o (body-legible t ok b h) at)
 
+    -- It stands at its offset.
     pub offset-is : x .offset ≡ o
     offset-is = found (accepted t ok) b in-program o at .offset
 
@@ -90,6 +92,7 @@ module _ (t : List ℕ) (ok : scan t ≡ 0) (b : ℕ) (h : b < getD t 0 0) where
         let w = width-pos (x .command) in
         omega arith
 
+    -- So does its first byte, and its offset is small.
     pub place-inside : getD (layoutOf t .starts) b 0 + o < length t
     place-inside = let k = command-inside in let w = width-pos (x .command) in omega arith
 

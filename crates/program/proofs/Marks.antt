@@ -1,24 +1,24 @@
 -- The marks of an accepted table say where the commands of its bodies stand.
-use Prim.Native.Nat.{ℕ, zero, suc, _+_, _*_, _-_, _≤_, _<_}
+use Prim.Native.Nat.{ℕ, zero, suc, _+_, _-_, _≤_, _<_}
 use native.Mathlib.Omega.{arith}
 use native.Mathlib.Nat.{zero-add}
 use native.Mathlib.Decide.{decLe}
-use mathlib.Core.Path.{_≡_, refl, sym, ap, subst, _∙_}
-use mathlib.Core.List.{List, [], _∷_, _++_}
-use mathlib.Core.Bool.{Bool, true, false, cond, _||_}
-use lib.ListN.{length, getD, drop, replicate, length-append, length-replicate, length-drop, getD-replicate, List·getD-append}
+use mathlib.Core.Path.{_≡_, refl, ap, subst, _∙_}
+use mathlib.Core.List.{List, [], _∷_}
+use mathlib.Core.Bool.{Bool, true, false, cond}
+use lib.ListN.{length, getD, replicate, length-append, length-replicate, length-drop, getD-replicate, List·getD-append}
 use lib.Seq.{getD-append-add}
 use lib.Dec.{eqb}
 use borrow.Author.Tests.{eqb-true, eq-eqb, ne-eqb}
 use Rattle.program.specs.Command.{width, held, isEnd}
 use Rattle.program.specs.Reading.{commandsOf}
-use Rattle.program.specs.Bodies.{Located, Body, firstBody, afterEnd, locate, programOf, isPlace}
+use Rattle.program.specs.Bodies.{firstBody, afterEnd, locate, programOf, isPlace}
 use Rattle.program.specs.Scan.{scan, leftAfter, bodyAfter, bytes, layoutOf}
 use Rattle.program.specs.Places.{marks, tableMarks, placesOf}
 use Rattle.program.specs.declared.command.Command.{Command}
-use Rattle.program.proofs.Basic.{apart, true-false, getD-padded}
-use Rattle.program.proofs.ShapeRows.{width-pos, celled, ended}
-use Rattle.program.proofs.ShapeListed.{Fit, Listed, over, next, left-end, next-body, listed-bytes, passes, onwards, before}
+use Rattle.program.proofs.Basic.{getD-padded}
+use Rattle.program.proofs.ShapeRows.{width-pos}
+use Rattle.program.proofs.ShapeListed.{Listed, over, next, left-end, next-body, listed-bytes, passes, onwards, before}
 use Rattle.program.proofs.ShapeLaws.{body-at}
 use Rattle.program.proofs.LocatedBytes.{start-is}
 
@@ -43,6 +43,7 @@ data Byte (w : ℕ) : ℕ → Type 0 where
   own : {o : ℕ} → suc o < w → Byte w (suc o)
   past : (o : ℕ) → Byte w (w + o)
 
+-- Each byte is one of these.
 byte : (w o : ℕ) → 0 < w → Byte w o
 byte w zero h = first
 byte w (suc o) h = by (decLe w (suc o))
@@ -51,6 +52,7 @@ byte w (suc o) h = by (decLe w (suc o))
     by (yes l) = let e : w + (suc o - w) ≡ suc o = omega arith in subst (λ (k : ℕ). Byte w k) e (past (suc o - w))
     by (no l) = own {o = o} (omega arith)
 
+-- The marks of a command past its first byte, and of what follows it.
 marks-own : (i left : ℕ) (c : Command) (cs : List Command) (o : ℕ) → suc o < width c → getD (marks i left (c ∷ cs)) (suc o) 0 ≡ 0
 unfolding marks
 marks-own i left c cs o h =
@@ -65,14 +67,14 @@ marks-past i left c cs o =
     rw (e, getD-append-add)
 
 -- A mark is 0 or the number of a body from the first one on, plus 1.
-marks-later : (cs : List Command) (i left o b : ℕ) → b < i → eqb (getD (marks i left cs) o 0) (b + 1) ≡ false
-unfolding marks bodyAfter
+Later : List Command → Type 0
+Later cs = (i left o b : ℕ) → b < i → eqb (getD (marks i left cs) o 0) (b + 1) ≡ false
+
+marks-later : (cs : List Command) → Later cs
+unfolding Later marks bodyAfter
 marks-later [] i left o b h = ne-eqb 0 (b + 1) (λ e. omega arith)
 marks-later (c ∷ cs) i left o b h = by (byte (width c) o (width-pos c)) (marks-later cs)
   where
-    Later : List Command → Type 0
-    Later cs = (i left o b : ℕ) → b < i → eqb (getD (marks i left cs) o 0) (b + 1) ≡ false
-
     start : (q : Bool) → eqb (cond q (i + 1) 0) (b + 1) ≡ false
     start true = ne-eqb (i + 1) (b + 1) (λ e. omega arith)
     start false = ne-eqb 0 (b + 1) (λ e. omega arith)
@@ -87,8 +89,11 @@ marks-later (c ∷ cs) i left o b h = by (byte (width c) o (width-pos c)) (marks
     by (past o) ih = rw (marks-past i left c cs o) (ih (bodyAfter i c) (leftAfter left c) o b (grows (isEnd c)))
 
 -- The marks of body i are at the places of its commands.
-marks-here : (cs : List Command) (i left at o : ℕ) → eqb (getD (marks i left cs) o 0) (i + 1) ≡ isPlace (locate at left (firstBody cs)) (at + o)
-unfolding marks locate isPlace firstBody bodyAfter
+Here : List Command → Type 0
+Here cs = (i left at o : ℕ) → eqb (getD (marks i left cs) o 0) (i + 1) ≡ isPlace (locate at left (firstBody cs)) (at + o)
+
+marks-here : (cs : List Command) → Here cs
+unfolding Later Here marks locate isPlace firstBody bodyAfter
 marks-here [] i left at o = ne-eqb 0 (i + 1) (λ e. omega arith)
 marks-here (c ∷ cs) i left at o = by (byte (width c) o (width-pos c)) (marks-here cs)
   where
@@ -101,12 +106,12 @@ marks-here (c ∷ cs) i left at o = by (byte (width c) o (width-pos c)) (marks-h
         let w = width-pos c in
         rw (ne-eqb (suc left) 0 (λ e. omega arith), place-before rest (at + width c) left (at + 0) (omega arith)) (ne-eqb 0 (i + 1) (λ e. omega arith))
 
-    on : (q : Bool) (o : ℕ) → ((i left at o : ℕ) → eqb (getD (marks i left cs) o 0) (i + 1) ≡ isPlace (locate at left (firstBody cs)) (at + o))
+    on : (q : Bool) (o : ℕ) → Here cs
         → eqb (getD (marks (cond q (i + 1) i) (leftAfter left c) cs) o 0) (i + 1) ≡ isPlace (locate (at + width c) (leftAfter left c) (cond q [] (firstBody cs))) (at + width c + o)
     on true o ih = marks-later cs (i + 1) (leftAfter left c) o i (omega arith)
     on false o ih = ih i (leftAfter left c) (at + width c) o
 
-    by : {o : ℕ} → Byte (width c) o → ((i left at o : ℕ) → eqb (getD (marks i left cs) o 0) (i + 1) ≡ isPlace (locate at left (firstBody cs)) (at + o))
+    by : {o : ℕ} → Byte (width c) o → Here cs
         → eqb (getD (marks i left (c ∷ cs)) o 0) (i + 1) ≡ isPlace (locate at left (c ∷ rest)) (at + o)
     by first ih = start left
     by (own {o = o} l) ih =
@@ -121,7 +126,7 @@ marks-here (c ∷ cs) i left at o = by (byte (width c) o (width-pos c)) (marks-h
 marks-next : {n i left : ℕ} {s : List ℕ} {cs : List Command} → Listed n i left s cs → i < n → (o : ℕ) → getD (marks i left cs) (bytes (firstBody cs) + o) 0 ≡ getD (marks (i + 1) 0 (afterEnd cs)) o 0
 unfolding firstBody afterEnd bytes bodyAfter
 marks-next (over e) h o = absurd (let y : ⊥ = omega arith in y)
-marks-next {n = n} {i = i} {left = left} (next {c = c} {cs = cs} apart read fits r) h o = by (isEnd c) refl (λ l. marks-next r l o)
+marks-next {n = n} {i = i} {left = left} (next {c = c} {cs = cs} inside legible fits r) h o = by (isEnd c) refl (λ l. marks-next r l o)
   where
     by : (e : Bool) → isEnd c ≡ e
         → (bodyAfter i c < n → getD (marks (bodyAfter i c) (leftAfter left c) cs) (bytes (firstBody cs) + o) 0 ≡ getD (marks (bodyAfter i c + 1) 0 (afterEnd cs)) o 0)
@@ -140,6 +145,7 @@ marks-at {i = i} {cs = cs} (suc b) l h o =
     let f : bytes (firstBody cs) + before b (afterEnd cs) + o ≡ bytes (firstBody cs) + (before b (afterEnd cs) + o) = omega arith in
     rw (e, f) (marks-next l (omega arith) _ ∙ marks-at b (next-body l (omega arith)) (omega arith) o)
 
+-- There is a mark for each byte.
 length-marks : (cs : List Command) (i left : ℕ) → length (marks i left cs) ≡ bytes cs
 unfolding marks bytes
 length-marks [] i left = refl
@@ -148,7 +154,7 @@ length-marks (c ∷ cs) i left =
     let e = length-marks cs (bodyAfter i c) (leftAfter left c) in
     simp (length-append, length-replicate) (omega arith)
 
--- There is a mark for each of 2,048 bytes.
+-- Of a table there are 2,048 marks, whatever the table.
 pub length-places : (t : List ℕ) → length (placesOf t) ≡ 2048
 unfolding placesOf tableMarks
 length-places t = by (eqb (scan t) 0) refl
@@ -165,7 +171,7 @@ length-places t = by (eqb (scan t) 0) refl
 -- The mark of a byte of a body is the body's where a command of the body stands there, and only there.
 pub marked : (t : List ℕ) → scan t ≡ 0 → (b : ℕ) → b < getD t 0 0 → (o : ℕ)
     → eqb (getD (placesOf t) (getD (layoutOf t .starts) b 0 + o) 0) (b + 1) ≡ isPlace (getD (programOf t) b []) o
-unfolding placesOf tableMarks programOf
+unfolding placesOf tableMarks programOf Here
 marked t ok b h o =
     let cs = commandsOf t in
     let e : 1 + before b cs + o ≡ suc (before b cs + o) = omega arith in

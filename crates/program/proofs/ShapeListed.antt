@@ -1,23 +1,23 @@
 -- A table that the scan lets pass, command by command: each is read where the one before it ends and fits its body. All else follows from this.
-use Prim.Native.Nat.{ℕ, zero, suc, _+_, _*_, _-_, _≤_, _<_}
+use Prim.Native.Nat.{ℕ, zero, suc, _+_, _-_, _≤_, _<_}
 use native.Mathlib.Omega.{arith}
-use mathlib.Core.Path.{_≡_, refl, sym, ap, subst, _∙_}
+use mathlib.Core.Path.{_≡_, refl, subst}
 use mathlib.Core.List.{List, [], _∷_}
-use mathlib.Core.Bool.{Bool, true, false, cond, _||_, _&&_, not}
+use mathlib.Core.Bool.{Bool, true, false, cond}
 use lib.ListN.{length, getD, drop, length-drop}
 use lib.Seq.{drop-drop}
 use lib.Dec.{ltb, leb, eqb}
 use borrow.Author.Tests.{ltb-true, leb-true, eqb-true, eqb-false, ne-eqb}
-use Rattle.program.specs.Command.{width, names, named, held, isEnd, usesCell}
+use Rattle.program.specs.Command.{width, names, named, isEnd, usesCell}
 use Rattle.program.specs.Reading.{read, readingsAfter, readings, wholes, commandsOf, andOn}
 use Rattle.program.specs.Bodies.{firstBody, afterEnd}
 use Rattle.program.specs.Scan.{nameFits, atomFits, placing, leftAfter, bodyAfter, verdict, fitsLength, fitsBodies, scan, bytes}
 use Rattle.program.specs.declared.command.Command.{Command}
 use Rattle.program.specs.declared.reading.Reading.{Reading}
 use Rattle.program.specs.declared.reading.Reading.the-variants.{Whole, Unknown, Cut, Outside}
-use Rattle.program.proofs.Basic.{apart, true-false, and-true, implied, passed, failed, neither, drop-pos}
-use Rattle.program.proofs.ShapeRows.{width-pos, Celled, celled, Ended, ended}
-use Rattle.program.proofs.ShapeReading.{Known, known}
+use Rattle.program.proofs.Basic.{true-false, and-true, implied, passed, failed, neither, drop-pos}
+use Rattle.program.proofs.ShapeRows.{width-pos, celled, closing}
+use Rattle.program.proofs.ShapeReading.{known}
 
 -- A command of body i of n, where `left` commands still belong to an ATOM.
 pub record Fit (n i left : ℕ) (c : Command) : Type 0 where
@@ -72,6 +72,7 @@ pub record Passed (t : List ℕ) : Type 0 where
   pub few : getD t 0 0 ≤ 16
   pub listed : Listed (getD t 0 0) 0 0 (drop 1 t) (commandsOf t)
 
+-- A table that the scan lets pass is within its limits, and its commands are listed.
 pub passes : (t : List ℕ) → scan t ≡ 0 → Passed t
 unfolding scan fitsLength fitsBodies commandsOf readings
 passes t e =
@@ -101,13 +102,14 @@ before (suc b) cs = bytes (firstBody cs) + before b (afterEnd cs)
 -- After END no command belongs to an ATOM.
 pub left-end : (n i left : ℕ) (c : Command) → Fit n i left c → isEnd c ≡ true → leftAfter left c ≡ 0
 unfolding leftAfter
-left-end n i zero c f e = ended c e .alone
+left-end n i zero c f e = closing c e .alone
 left-end n i (suc left) c f e = absurd (true-false e (celled c (f .cell (omega arith)) .goes))
 
+-- The next body is listed, and so is body b.
 pub next-body : {n i left : ℕ} {s : List ℕ} {cs : List Command} → Listed n i left s cs → i < n → Listed n (i + 1) 0 (drop (bytes (firstBody cs)) s) (afterEnd cs)
 unfolding firstBody afterEnd bytes bodyAfter
 next-body (over e) h = absurd (let y : ⊥ = omega arith in y)
-next-body {n = n} {i = i} {left = left} {s = s} (next {c = c} {cs = cs} apart read fits r) h = by (isEnd c) refl r (next-body r)
+next-body {n = n} {i = i} {left = left} {s = s} (next {c = c} {cs = cs} inside own fits r) h = by (isEnd c) refl r (next-body r)
   where
     Rest : Bool → Type 0
     Rest e = Listed n (cond e (i + 1) i) (leftAfter left c) (drop (width c) s) cs
@@ -129,7 +131,7 @@ listed-at {i = i} {s = s} {cs = cs} (suc b) l h =
 pub listed-bytes : {n i left : ℕ} {s : List ℕ} {cs : List Command} → Listed n i left s cs → bytes cs ≡ length s
 unfolding bytes
 listed-bytes (over e) = refl
-listed-bytes {s = s} (next {c = c} apart h fits r) =
+listed-bytes {s = s} (next {c = c} inside own fits r) =
     let e = rw length-drop at (listed-bytes r) in
-    let k = known s h .inside in
+    let k = known s own .inside in
     omega arith

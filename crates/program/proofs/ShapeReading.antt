@@ -1,9 +1,9 @@
 -- What a whole command that was read tells.
-use Prim.Native.Nat.{ℕ, zero, suc, _+_, _-_, _≤_, _<_}
+use Prim.Native.Nat.{ℕ, suc, _+_, _≤_, _<_}
 use native.Mathlib.Omega.{arith}
 use mathlib.Core.Path.{_≡_, refl, sym, ap, _∙_}
 use mathlib.Core.List.{List, [], _∷_}
-use mathlib.Core.Bool.{Bool, true, false, cond, _&&_}
+use mathlib.Core.Bool.{Bool, true, false, cond}
 use lib.ListN.{length, getD, drop}
 use lib.Seq.{drop-cons}
 use lib.Dec.{leb, ltb}
@@ -11,11 +11,11 @@ use borrow.Author.Tests.{leb-false, ltb-false}
 use Rattle.program.specs.Command.{Operand, inside, rows, rowAt, opcode, operandsOf, commandOf, rowOf, width}
 use Rattle.program.specs.Reading.{allInside, read}
 use Rattle.program.specs.declared.command.Command.{Command}
-use Rattle.program.specs.declared.reading.Reading.{Reading}
 use Rattle.program.specs.declared.reading.Reading.the-variants.{Whole, Unknown, Cut, Outside}
 use Rattle.program.proofs.Basic.{apart, and-true, and-intro, each-from}
 use Rattle.program.proofs.Shape.{Ranged}
 
+-- What is known of s where it starts with the command c of so many bytes.
 pub record Known (s : List ℕ) (c : Command) (size : ℕ) : Type 0 where
   pub wide : size ≡ width c
   pub inside : size ≤ length s
@@ -26,6 +26,7 @@ abbrev firsts : List Operand → List ℕ → ℕ → List ℕ
 firsts [] s i = []
 firsts (kind ∷ kinds) s i = getD s i 0 ∷ firsts kinds s (suc i)
 
+-- They are inside their ranges where the bytes are.
 firsts-inside : (kinds : List Operand) (s : List ℕ) (i : ℕ) → i + length kinds ≤ length s → allInside kinds (drop i s) ≡ true → allInside kinds (firsts kinds s i) ≡ true
 firsts-inside [] s i h e = refl
 firsts-inside (kind ∷ kinds) s i h e =
@@ -61,6 +62,7 @@ kept s op =
     (λ n far lt e. absurd (let y : ⊥ = omega arith in y))))))))))))))))))
     op (omega arith)
 
+-- The tests of a reading that gave a command.
 record Tests (a b e : Bool) (c₀ c : Command) (w₀ size : ℕ) : Type 0 where
   known : a ≡ false
   whole : b ≡ false

@@ -1,10 +1,8 @@
 -- What each command's row says of it, so that nothing above has to look into the rows.
-use Prim.Native.Nat.{ℕ, zero, suc, _+_, _<_}
-use mathlib.Core.List.{List, [], _∷_}
-use mathlib.Core.Bool.{Bool, true, false, cond, _||_, _&&_, not}
+use Prim.Native.Nat.{ℕ, _<_}
+use mathlib.Core.Bool.{Bool, true, false, _||_, _&&_, not}
 use mathlib.Core.Path.{_≡_, refl, ap}
 use native.Mathlib.Omega.{arith}
-use lib.ListN.{length}
 use lib.Dec.{eqb}
 use borrow.Author.Tests.{eqb-true}
 use Rattle.program.specs.Command.{rows, rowAt, opcode, operandsOf, rowOf, width, names, named, times, held, isEnd, usesCell}
@@ -59,6 +57,7 @@ running width b n activities = record {
   accumulators = 0;
 }
 
+-- One that counts 1 work and nothing else, and one on a cell.
 abbrev plain : ℕ → Saying
 plain width = alone false false width 0 1 0 0
 
@@ -101,28 +100,43 @@ saidOf c = record {
   accumulators = rowOf c .accumulators;
 }
 
+-- A command on a cell is two bytes, is not END, names nothing and holds nothing.
+cellFits : Saying → Bool
+cellFits s = not (s .usesCell) || (eqb (s .width) 2 && (not (s .isEnd) && (not (s .names) && eqb (s .held) 0)))
+
+-- END is one byte, names nothing and holds nothing.
+endFits : Saying → Bool
+endFits s = not (s .isEnd) || (eqb (s .width) 1 && (not (s .names) && eqb (s .held) 0))
+
+-- Command by command, the rows say that, and it fits.
+each-said : (c : Command) → (saidOf c ≡ saying c) × (cellFits (saying c) && endFits (saying c) ≡ true)
+unfolding saidOf cellFits endFits rows rowAt opcode operandsOf rowOf width names named times held isEnd usesCell
+each-said End = (refl, refl)
+each-said Next = (refl, refl)
+each-said (Clock c) = (refl, refl)
+each-said (Resume c) = (refl, refl)
+each-said (Drop c) = (refl, refl)
+each-said (Async b m) = (refl, refl)
+each-said (Finish b) = (refl, refl)
+each-said (Repeat n b) = (refl, refl)
+each-said (Acc a o) = (refl, refl)
+each-said (Offer a) = (refl, refl)
+each-said (Read a) = (refl, refl)
+each-said (Reset a) = (refl, refl)
+each-said (Put v) = (refl, refl)
+each-said (Fetch d) = (refl, refl)
+each-said (Store d) = (refl, refl)
+each-said (Add d) = (refl, refl)
+each-said (Atom k) = (refl, refl)
+
 -- The rows say that.
 pub said : (c : Command) → saidOf c ≡ saying c
-unfolding saidOf rows rowAt opcode operandsOf rowOf width names named times held isEnd usesCell
-said End = refl
-said Next = refl
-said (Clock c) = refl
-said (Resume c) = refl
-said (Drop c) = refl
-said (Async b m) = refl
-said (Finish b) = refl
-said (Repeat n b) = refl
-said (Acc a o) = refl
-said (Offer a) = refl
-said (Read a) = refl
-said (Reset a) = refl
-said (Put v) = refl
-said (Fetch d) = refl
-said (Store d) = refl
-said (Add d) = refl
-said (Atom k) = refl
+said c = each-said c .0
 
--- ONE LAW FOR EACH OF THEM
+said-fits : (c : Command) → (cellFits (saidOf c) ≡ true) × (endFits (saidOf c) ≡ true)
+said-fits c = and-true (cellFits (saidOf c)) (endFits (saidOf c)) (rw (said c) (each-said c .1))
+
+-- ONE LAW FOR EACH: of a command that is written out, the right side computes
 
 pub width-is : (c : Command) → width c ≡ saying c .width
 unfolding saidOf
@@ -180,36 +194,6 @@ pub times-none : (c : Command) → names c ≡ false → times c ≡ 0
 unfolding times
 times-none c e = rw e
 
--- Commands on cells are two bytes, are not END, name nothing and hold nothing; END is one byte, names nothing and holds nothing.
-cellFits : Saying → Bool
-cellFits s = not (s .usesCell) || (eqb (s .width) 2 && (not (s .isEnd) && (not (s .names) && eqb (s .held) 0)))
-
-endFits : Saying → Bool
-endFits s = not (s .isEnd) || (eqb (s .width) 1 && (not (s .names) && eqb (s .held) 0))
-
-fitting : (c : Command) → cellFits (saying c) && endFits (saying c) ≡ true
-unfolding cellFits endFits
-fitting End = refl
-fitting Next = refl
-fitting (Clock c) = refl
-fitting (Resume c) = refl
-fitting (Drop c) = refl
-fitting (Async b m) = refl
-fitting (Finish b) = refl
-fitting (Repeat n b) = refl
-fitting (Acc a o) = refl
-fitting (Offer a) = refl
-fitting (Read a) = refl
-fitting (Reset a) = refl
-fitting (Put v) = refl
-fitting (Fetch d) = refl
-fitting (Store d) = refl
-fitting (Add d) = refl
-fitting (Atom k) = refl
-
-said-fits : (c : Command) → cellFits (saidOf c) && endFits (saidOf c) ≡ true
-said-fits c = rw (said c) (fitting c)
-
 -- What is known of a command on a cell.
 pub record Celled (c : Command) : Type 0 where
   pub wide : width c ≡ 2
@@ -217,27 +201,27 @@ pub record Celled (c : Command) : Type 0 where
   pub nameless : names c ≡ false
   pub alone : held c ≡ 0
 
+-- A command on a cell is all that.
 pub celled : (c : Command) → usesCell c ≡ true → Celled c
 unfolding cellFits endFits saidOf
 celled c e =
-    let f = and-true (cellFits (saidOf c)) (endFits (saidOf c)) (said-fits c) in
-    let g = implied (usesCell c) _ (f .0) e in
+    let g = implied (usesCell c) _ (said-fits c .0) e in
     let h = and-true (eqb (width c) 2) _ g in
     let k = and-true (not (isEnd c)) _ (h .1) in
     let l = and-true (not (names c)) _ (k .1) in
     record { wide = eqb-true _ _ (h .0); goes = not-true _ (k .0); nameless = not-true _ (l .0); alone = eqb-true _ _ (l .1) }
 
 -- What is known of END.
-pub record Ended (c : Command) : Type 0 where
+pub record Closing (c : Command) : Type 0 where
   pub wide : width c ≡ 1
   pub nameless : names c ≡ false
   pub alone : held c ≡ 0
 
-pub ended : (c : Command) → isEnd c ≡ true → Ended c
+-- END is all that.
+pub closing : (c : Command) → isEnd c ≡ true → Closing c
 unfolding cellFits endFits saidOf
-ended c e =
-    let f = and-true (cellFits (saidOf c)) (endFits (saidOf c)) (said-fits c) in
-    let g = implied (isEnd c) _ (f .1) e in
+closing c e =
+    let g = implied (isEnd c) _ (said-fits c .1) e in
     let h = and-true (eqb (width c) 1) _ g in
     let k = and-true (not (names c)) _ (h .1) in
     record { wide = eqb-true _ _ (h .0); nameless = not-true _ (k .0); alone = eqb-true _ _ (k .1) }

@@ -2,8 +2,8 @@
 use Prim.Native.Nat.{ℕ, zero, suc, _+_, _*_, _≤_, _<_}
 use native.Mathlib.Omega.{arith}
 use native.Mathlib.Nat.{zero-mul}
-use mathlib.Core.Path.{_≡_, refl, sym, ap, ap₂, _∙_}
-use mathlib.Core.List.{List, [], _∷_}
+use mathlib.Core.Path.{_≡_, refl, sym, _∙_}
+use mathlib.Core.List.{[], _∷_}
 use mathlib.Core.Bool.{Bool, true, false}
 use lib.ListN.{length, getD}
 use Rattle.program.specs.Command.{names, named, times, isEnd}
@@ -11,7 +11,7 @@ use Rattle.program.specs.Bodies.{Located, Body, Program, from}
 use Rattle.program.specs.Count.{sumOver, tallyTo, tally}
 use Rattle.program.specs.declared.command.Command.{Command}
 use Rattle.program.proofs.Shape.{Sound, stride, Shaped, Accepted}
-use Rattle.program.proofs.ShapeRows.{times-none, ended}
+use Rattle.program.proofs.ShapeRows.{times-none, closing}
 use Rattle.program.proofs.ShapeLaws.{Each}
 use Rattle.program.proofs.Located.{from-start, found, end-last}
 
@@ -79,4 +79,4 @@ module _ {p : Program} (ok : Accepted p) (own : Command → ℕ) (b : ℕ) (h : 
 
     pub left-end : isEnd (x .command) ≡ true → leftOf own p b o ≡ own (x .command)
     unfolding leftOf sumOver
-    left-end e = let g = named-none (x .command) (tally own p (named (x .command))) (ended (x .command) e .nameless) in rw (at, end-last ok b h o at e) (omega arith)
+    left-end e = let g = named-none (x .command) (tally own p (named (x .command))) (closing (x .command) e .nameless) in rw (at, end-last ok b h o at e) (omega arith)
