@@ -1,8 +1,12 @@
-// Tests of a status and of a registration.
+// Tests of a status, of a registration and of entries that are 0.
 ghost use mathlib.Core.Path.{_≡_};
 ghost use Rattle.rules.specs.State.{isEnded, isAtBarrier};
-ghost use Rattle.rules.specs.Clocks.{isHeld, isLive, isBehind, quiesced, quiesce, revived, pass};
-ghost use Rattle.rules.specs.WellFormed.{isRunning};
+ghost use Rattle.rules.specs.Clocks.{isHeld, isLive, isBehind};
+ghost use Rattle.rules.specs.WellFormed.{isRunning, isNoFrame, isNoHold, isNoAccumulator};
+use super::numbers::operator_number;
+use super::numbers::registration_number;
+use super::state::Accumulator;
+use super::state::Frame;
 use super::state::Hold;
 use super::state::Registration;
 use super::state::Status;
@@ -75,5 +79,52 @@ pub fn is_behind(clock: u8, phase: u16, hold: Hold) -> bool
     if hold.phase < phase {
         return true;
     }
-    hold.phase == phase && is_live(registration)
+    if hold.phase == phase {
+        return is_live(registration);
+    }
+    false
+}
+
+// Whether a frame is all 0.
+pub fn is_no_frame(frame: Frame) -> bool
+    ensures { λ r. ⌜ r ≡ isNoFrame frame ⌝ }
+{
+    if frame.offset != 0 {
+        return false;
+    }
+    if frame.body != 0 {
+        return false;
+    }
+    if frame.runs != 0 {
+        return false;
+    }
+    frame.first == 0
+}
+
+// Whether a hold is all 0.
+pub fn is_no_hold(hold: Hold) -> bool
+    ensures { λ r. ⌜ r ≡ isNoHold hold ⌝ }
+{
+    if hold.phase != 0 {
+        return false;
+    }
+    if hold.clock != 0 {
+        return false;
+    }
+    let registration = hold.registration;
+    registration_number(registration) == 0
+}
+
+// Whether an accumulator is all 0.
+pub fn is_no_accumulator(accumulator: Accumulator) -> bool
+    ensures { λ r. ⌜ r ≡ isNoAccumulator accumulator ⌝ }
+{
+    if accumulator.value != 0 {
+        return false;
+    }
+    if accumulator.owner != 0 {
+        return false;
+    }
+    let operator = accumulator.operator;
+    operator_number(operator) == 0
 }

@@ -1,6 +1,6 @@
 // Accumulators: what a new one holds, and how one reduces.
 ghost use mathlib.Core.Path.{_≡_};
-ghost use Rattle.rules.specs.Effects.{reduce, newValue, newAccumulator};
+ghost use Rattle.rules.specs.Effects.{reduce, newValue, newAccumulator, withValue};
 use super::state::Accumulator;
 use super::state::Operator;
 
@@ -31,5 +31,15 @@ pub fn new_accumulator(owner: u8, operator: Operator) -> Accumulator
         value: new_value(operator),
         owner,
         operator,
+    }
+}
+
+// The accumulator with another value.
+pub fn with_value(accumulator: Accumulator, value: u32) -> Accumulator
+    ensures { λ r. ⌜ r ≡ withValue accumulator value ⌝ }
+{
+    Accumulator {
+        value,
+        ..accumulator
     }
 }

@@ -1,49 +1,55 @@
+-- Each status gives its answer, which fits a byte.
+use Prim.Native.Nat.{ℕ, _+_}
+use mathlib.Core.Path.{_≡_}
+use mir.Val.{Fits}
+use mir.Syntax.{w8}
+use native.Mathlib.Omega.{arith}
 use borrow.Author.Needs.{needs}
+use Rattle.rules.specs.declared.state.Fault.{Fault}
+use Rattle.rules.specs.declared.state.Fault.the-variants.{F1, F2, F3, F4, F5, F6, F7}
+use Rattle.rules.specs.State.{faultNumber}
 use Rattle.rules.proofs.numbers.status_answer.Statement.{statement}
 use Rattle.rules.proofs.numbers.status_answer.Tie as tie
-use Rattle.rules.proofs.numbers.status_answer.Reads as reads
-use Rattle.rules.proofs.numbers.status_answer.Lts as lts
-use Rattle.rules.proofs.numbers.fault_number.Reads as fault-number-reads
 
--- src/numbers.rt:74:28
+-- A fault's answer is a byte.
+fits : (f : Fault) {r : ℕ} → r ≡ faultNumber f → Fits w8 (100 + r)
+fits F1 e = record { fits = omega arith }
+fits F2 e = record { fits = omega arith }
+fits F3 e = record { fits = omega arith }
+fits F4 e = record { fits = omega arith }
+fits F5 e = record { fits = omega arith }
+fits F6 e = record { fits = omega arith }
+fits F7 e = record { fits = omega arith }
+
 enum-told : tie.Need-enum-told
 enum-told c = search needs
 
--- src/numbers.rt:75:30
 enum-told-2 : tie.Need-enum-told-2
 enum-told-2 c = search needs
 
--- src/numbers.rt:76:26
 enum-told-3 : tie.Need-enum-told-3
 enum-told-3 c = search needs
 
--- src/numbers.rt:77:25
 enum-known-status : tie.Need-enum-known-status
 enum-known-status c = search needs
 
--- src/numbers.rt:77:41
 fault-number-requires : tie.Need-fault-number-requires
 fault-number-requires c κs = search needs
 
--- src/numbers.rt:77:35
 add-result : tie.Need-add-result
-add-result c = ?
+add-result c = fits (c .before .before .status .given .0 .0) (c .fault-number .ensures)
 
--- src/numbers.rt:70:1
 returns : tie.Need-returns
 returns c = search needs
 
--- src/numbers.rt:70:1
 returns-2 : tie.Need-returns-2
 returns-2 c = search needs
 
--- src/numbers.rt:70:1
 returns-3 : tie.Need-returns-3
 returns-3 c = search needs
 
--- src/numbers.rt:70:1
 returns-4 : tie.Need-returns-4
-returns-4 c = ?
+returns-4 c = cc
 
 pub status-answer-spec : {M : Type 1} → statement M
 status-answer-spec =
