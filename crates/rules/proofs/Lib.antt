@@ -2,4 +2,5 @@ pub mod Tests
 pub mod Search
 pub mod Sums
 pub mod Lists
+
 mod Cases
