@@ -2,4 +2,8 @@ pub mod Tests
 pub mod Search
 pub mod Sums
 pub mod Lists
+pub mod Sized
+pub mod WellFormedPlaces
+pub mod WellFormedStack
+pub mod WellFormedHolds
 mod Cases
