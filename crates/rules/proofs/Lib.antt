@@ -6,4 +6,5 @@ pub mod Sized
 pub mod WellFormedPlaces
 pub mod WellFormedStack
 pub mod WellFormedHolds
+pub mod WellFormedFacts
 mod Cases
