@@ -7,4 +7,5 @@ pub mod WellFormedPlaces
 pub mod WellFormedStack
 pub mod WellFormedHolds
 pub mod WellFormedFacts
+pub mod WellFormedShape
 mod Cases
