@@ -8,4 +8,6 @@ pub mod WellFormedStack
 pub mod WellFormedHolds
 pub mod WellFormedFacts
 pub mod WellFormedShape
+pub mod WellFormedApply
+pub mod WellFormedStep
 mod Cases

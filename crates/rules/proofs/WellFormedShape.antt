@@ -64,14 +64,14 @@ pub data Holding (next : ℕ) (clocked : Bool) (a b : Activity) : Type 0 where
 -- What becomes of the accumulators and of their names, where the next accumulator has number `next`.
 pub data Naming (next i : ℕ) (a b : Activity) (w : Write) : Type 0 where
   keeps : w ≡ keep → b .accumulators ≡ a .accumulators → Naming next i a b w
-  makes : (n o : ℕ) → w ≡ make (newAccumulator i (operatorOf o)) → b .accumulators ≡ set (a .accumulators) n (next + 1) → Naming next i a b w
+  adds : (n o : ℕ) → w ≡ make (newAccumulator i (operatorOf o)) → b .accumulators ≡ set (a .accumulators) n (next + 1) → Naming next i a b w
   offers : (x v : ℕ) → w ≡ offer x v → x < next → b .accumulators ≡ a .accumulators → Naming next i a b w
   resets : (x v : ℕ) → w ≡ reset x v → x < next → b .accumulators ≡ a .accumulators → Naming next i a b w
 
 -- Who is spawned: each clock lent is held, and live.
 pub data Offspring (i : ℕ) (a : Activity) (o : Command) (w : Spawned) : Type 0 where
   childless : w ≡ nobody → Offspring i a o w
-  spawns : (b m : ℕ) → o ≡ Async b m → w ≡ one (child i a b m) → ((k : ℕ) → k < 8 → bit m k ≡ true → (holds a k ≡ true) × (isLive (hold a k .registration) ≡ true))
+  bears : (b m : ℕ) → o ≡ Async b m → w ≡ one (child i a b m) → ((k : ℕ) → k < 8 → bit m k ≡ true → (holds a k ≡ true) × (isLive (hold a k .registration) ≡ true))
       → Offspring i a o w
 
 pub record Shape (p : Program) (s : State) (i : ℕ) (a : Activity) (o : Command) (e : Effect) : Type 0 where
@@ -192,7 +192,7 @@ module _ (p : Program) (s : State) (i : ℕ) (a : Activity) (live : isEnded (a .
         holding = same refl refl;
         naming = keeps refl refl;
         spawner = refl;
-        offspring = spawns c m refl refl (λ k l t. let h = lends-held a m (f₂ .0) k l t in (h, lends-live a m (f₃ .0) k l t h));
+        offspring = bears c m refl refl (λ k l t. let h = lends-held a m (f₂ .0) k l t in (h, lends-live a m (f₃ .0) k l t h));
       }
   shape (Finish c) inner b r e =
       record {
@@ -219,7 +219,7 @@ module _ (p : Program) (s : State) (i : ℕ) (a : Activity) (live : isEnded (a .
       record {
         motion = goes refl (still (Acc n o) b (λ q. omega arith)) refl refl;
         holding = same refl refl;
-        naming = makes n o refl refl;
+        naming = adds n o refl refl;
         spawner = refl;
         offspring = childless refl;
       }
