@@ -10,4 +10,5 @@ pub mod WellFormedFacts
 pub mod WellFormedShape
 pub mod WellFormedApply
 pub mod WellFormedStep
+pub mod WellFormedStart
 mod Cases

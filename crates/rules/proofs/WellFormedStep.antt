@@ -44,7 +44,7 @@ use Rattle.rules.proofs.WellFormedApply.{Turn, turn, Room, room, at-sou
 
 -- STACKS
 
-stack-none : (p : Program) (made : ℕ) → Stack p made 0 noFrames
+pub stack-none : (p : Program) (made : ℕ) → Stack p made 0 noFrames
 stack-none p made =
     record {
       few = omega arith;
