@@ -11,4 +11,6 @@ pub mod WellFormedShape
 pub mod WellFormedApply
 pub mod WellFormedStep
 pub mod WellFormedStart
+pub mod Bits
+pub mod StepLaws
 mod Cases
