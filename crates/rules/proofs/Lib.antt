@@ -13,4 +13,6 @@ pub mod WellFormedStep
 pub mod WellFormedStart
 pub mod Bits
 pub mod StepLaws
+pub mod PersistBehind
+pub mod Persist
 mod Cases

@@ -1,0 +1,270 @@
+-- An activity that can step keeps that right while another steps, in every well-formed state, reached or not. Its record is untouched; it meets the same fault
+-- or none, since accumulators keep their owners; and whom it would wait for after the step it waited for before.
+use Prim.Native.Nat.{ℕ, zero, suc, _+_, _-_, _≤_, _<_}
+use native.Mathlib.Omega.{arith}
+use mathlib.Core.List.{List, [], _∷_}
+use mathlib.Core.Bool.{Bool, true, false, cond, _||_, _&&_, not}
+use mathlib.Core.Path.{_≡_, refl, sym, ap, _∙_, subst}
+use mathlib.Core.Logic.{_⊎_, inl, inr}
+use lib.ListN.{length, getD}
+use lib.Dec.{ltb, leb, eqb}
+use borrow.Author.Tests.{ltb-true, eqb-true, eqb-false, eq-eqb}
+use Rattle.program.specs.declared.command.Command.{Command}
+use Rattle.program.specs.declared.command.Command.the-variants.{End, Next, Clock, Resume, Drop, Async, Finish, Repeat, Acc, Offer, Read, Reset, Put, Fetch, Store, Add, Atom}
+use Rattle.program.specs.Command.{rows, rowAt, rowOf, opcode, operandsOf}
+use Rattle.program.specs.Bodies.{Program}
+use Rattle.program.proofs.Shape.{Accepted, Ranged}
+use Rattle.rules.specs.declared.state.Activity.{Activity}
+use Rattle.rules.specs.declared.state.State.{State}
+use Rattle.rules.specs.Search.{someBelow, chain}
+use Rattle.rules.specs.State.{act, top, hold, accumulator, bound, isEnded, isAtBarrier, ended}
+use Rattle.rules.specs.Clocks.{isHeld, isLive, holds, holdsSome, isBehind, behind}
+use Rattle.rules.specs.Tree.{here, spawnerOf, inFinishBody, descends, inside}
+use Rattle.rules.specs.Faults.{bit, unbound, numberUnder, readFault, faultFor}
+use Rattle.rules.specs.Waiting.{behindOf, unendedBelow, unendedInside, waitsFor, waitsAt}
+use Rattle.rules.specs.Effects.{Spawned, nobody, one, Effect, lent, child, envOf, applied}
+use Rattle.rules.specs.WellFormed.{wellFormed}
+use Rattle.rules.specs.Steps.{Limits, at, fault, waits, effect, refusal, spawns, exceeds, canStep}
+use Rattle.rules.proofs.Tests.{and-true, and-intro, and-false, not-true, true-false, decide}
+use Rattle.rules.proofs.Search.{Witness, someBelow-witness, someBelow-intro, someBelow-none, someBelow-all, chain-same, chain-cases}
+use Rattle.rules.proofs.Sized.{Sized}
+use Rattle.rules.proofs.WellFormedFacts.{ActivityFacts, Facts, facts}
+use Rattle.rules.proofs.WellFormedShape.{Naming, Offspring, childless, bears, Shape}
+use Rattle.rules.proofs.WellFormedApply.{Turn, turn, turn-back, Room, room, at-sound, step-shape, Now, self, newborn, other, now, act-old, acts-after, owner-old}
+use Rattle.rules.proofs.WellFormedStep.{step-facts}
+use Rattle.rules.proofs.PersistBehind.{self-before, child-before}
+
+-- FAULTS
+
+read-same : (s s′ : State) (x : ℕ) (a : Activity) (n : ℕ) → (unbound a n ≡ false → accumulator s′ (numberUnder a n) .owner ≡ accumulator s (numberUnder a n) .owner)
+    → readFault (envOf s′) x a n ≡ readFault (envOf s) x a n
+unfolding readFault
+read-same s s′ x a n h = go (decide (unbound a n))
+  where
+    go : (unbound a n ≡ true) ⊎ (unbound a n ≡ false) → readFault (envOf s′) x a n ≡ readFault (envOf s) x a n
+    go (inl u) = rw u
+    go (inr u) = rw (h u)
+
+-- where the accumulators that are bound have the same owners, the same fault is met
+fault-same : (p : Program) (s s′ : State) (x : ℕ) (a : Activity) → ((n : ℕ) → n < 8 → unbound a n ≡ false → accumulator s′ (numberUnder a n) .owner ≡ accumulator s (numberUnder a n) .owner)
+    → (o : Command) → Ranged o → faultFor p (envOf s′) x a o ≡ faultFor p (envOf s) x a o
+unfolding faultFor Ranged rowOf rowAt rows opcode operandsOf
+fault-same p s s′ x a h End r = refl
+fault-same p s s′ x a h Next r = refl
+fault-same p s s′ x a h (Clock c) r = refl
+fault-same p s s′ x a h (Resume c) r = refl
+fault-same p s s′ x a h (Drop c) r = refl
+fault-same p s s′ x a h (Async b m) r = refl
+fault-same p s s′ x a h (Finish b) r = refl
+fault-same p s s′ x a h (Repeat n b) r = refl
+fault-same p s s′ x a h (Acc n o) r = refl
+fault-same p s s′ x a h (Offer n) r = refl
+fault-same p s s′ x a h (Read n) r = read-same s s′ x a n (h n (ltb-true n 8 (and-true (ltb n 8) true r .0)))
+fault-same p s s′ x a h (Reset n) r = read-same s s′ x a n (h n (ltb-true n 8 (and-true (ltb n 8) true r .0)))
+fault-same p s s′ x a h (Put v) r = refl
+fault-same p s s′ x a h (Fetch d) r = refl
+fault-same p s s′ x a h (Store d) r = refl
+fault-same p s s′ x a h (Add d) r = refl
+fault-same p s s′ x a h (Atom k) r = refl
+
+-- WAITING
+
+-- whom it waits for after, it waited for before, or for another
+wait-before : (p : Program) (s s′ : State) (x : ℕ) (a : Activity) (y : ℕ) → (unendedInside s′ x (top a .first) y ≡ true → Witness (s .activities) (unendedInside s x (top a .first)))
+    → (unendedBelow s′ x y ≡ true → Witness (s .activities) (unendedBelow s x)) → (behindOf s′ a y ≡ true → Witness (s .activities) (behindOf s a)) → (o : Command)
+    → waitsFor p s′ x a o y ≡ true → waitsAt p s x a o ≡ true
+unfolding waitsFor waitsAt
+wait-before p s s′ x a y ins bel beh End e =
+    let q = and-true (inFinishBody p a) _ e in
+    let w = ins (q .1) in
+    someBelow-intro (s .activities) (waitsFor p s x a End) (w .at) (w .below) (and-intro (inFinishBody p a) _ (q .0) (w .passes))
+wait-before p s s′ x a y ins bel beh Next e =
+    let q = and-true (isAtBarrier (a .status)) _ e in
+    let w = beh (q .1) in
+    someBelow-intro (s .activities) (waitsFor p s x a Next) (w .at) (w .below) (and-intro (isAtBarrier (a .status)) _ (q .0) (w .passes))
+wait-before p s s′ x a y ins bel beh (Clock c) e = absurd (true-false false e refl)
+wait-before p s s′ x a y ins bel beh (Resume c) e = absurd (true-false false e refl)
+wait-before p s s′ x a y ins bel beh (Drop c) e = absurd (true-false false e refl)
+wait-before p s s′ x a y ins bel beh (Async b m) e = absurd (true-false false e refl)
+wait-before p s s′ x a y ins bel beh (Finish b) e = absurd (true-false false e refl)
+wait-before p s s′ x a y ins bel beh (Repeat n b) e = absurd (true-false false e refl)
+wait-before p s s′ x a y ins bel beh (Acc n o) e = absurd (true-false false e refl)
+wait-before p s s′ x a y ins bel beh (Offer n) e = absurd (true-false false e refl)
+wait-before p s s′ x a y ins bel beh (Read n) e = let w = bel e in someBelow-intro (s .activities) (waitsFor p s x a (Read n)) (w .at) (w .below) (w .passes)
+wait-before p s s′ x a y ins bel beh (Reset n) e = let w = bel e in someBelow-intro (s .activities) (waitsFor p s x a (Reset n)) (w .at) (w .below) (w .passes)
+wait-before p s s′ x a y ins bel beh (Put v) e = absurd (true-false false e refl)
+wait-before p s s′ x a y ins bel beh (Fetch d) e = absurd (true-false false e refl)
+wait-before p s s′ x a y ins bel beh (Store d) e = absurd (true-false false e refl)
+wait-before p s s′ x a y ins bel beh (Add d) e = absurd (true-false false e refl)
+wait-before p s s′ x a y ins bel beh (Atom k) e = absurd (true-false false e refl)
+
+-- THE STEP OF ANOTHER
+
+module _ (l : Limits) {p : Program} (ok : Accepted p) {s : State} (f : Facts (l .phase) p s) (z : Sized s) (i : ℕ) (t : Turn p s i) (r : Room l p s (effect p s i)) where
+  e : Effect
+  e = effect p s i
+
+  after : State
+  after = applied s i (effect p s i)
+
+  sh : Shape p s i (act s i) (here p (top (act s i)) .command) (effect p s i)
+  sh = step-shape ok f i (t .spawned) (t .unended)
+
+  then′ : (y : ℕ) → Now s i (effect p s i) y
+  then′ y = now s i (effect p s i) (z .acts64) (t .spawned) (f .acts64) (r .acts) y
+
+  -- spawners stay
+  spawner-old : (y : ℕ) → y < s .activities → spawnerOf (applied s i (effect p s i)) y ≡ spawnerOf s y
+  spawner-old y h = go (then′ y)
+    where
+      go : Now s i (effect p s i) y → spawnerOf (applied s i (effect p s i)) y ≡ spawnerOf s y
+      go (self d q) = ap (λ a. a .spawner) q ∙ sh .spawner ∙ ap (spawnerOf s) (sym d)
+      go (newborn c d n q) = absurd (omega arith)
+      go (other d n q) = ap (λ a. a .spawner) q
+
+  -- a chain from one who was there
+  chain-old : (test : ℕ → Bool) (x y : ℕ) → y < s .activities → chain (spawnerOf (applied s i (effect p s i))) test x 64 y ≡ chain (spawnerOf s) test x 64 y
+  chain-old test x y h =
+      chain-same (spawnerOf (applied s i (effect p s i))) (spawnerOf s) test test x 64 64 y
+      (λ w m n. (spawner-old w (omega arith), refl, rw (spawner-old w (omega arith)) (f .spawned w (omega arith) .lower (omega arith)))) (omega (arith, f .acts64)) (omega (arith, f .acts64))
+
+  -- the child's spawner is the one who stepped
+  spawner-new : (c : Activity) → effect p s i .spawned ≡ one c → c .spawner ≡ i
+  unfolding child
+  spawner-new c q = go (sh .offspring)
+    where
+      go : Offspring i (act s i) (here p (top (act s i)) .command) (effect p s i .spawned) → c .spawner ≡ i
+      go (childless n) = let y : _≡_ {A = ℕ} 0 1 = cc in absurd (omega arith)
+      go (bears b m o n h) = let g : c ≡ child i (act s i) b m = cc in rw g
+
+  grown : (c : Activity) → effect p s i .spawned ≡ one c → s .activities < applied s i (effect p s i) .activities
+  unfolding applied
+  grown c q = rw q (omega arith)
+
+  -- a chain from the child goes through the one who stepped
+  chain-child : (test : ℕ → Bool) (x : ℕ) → (x ≡ i → ⊥) → (c : Activity) → effect p s i .spawned ≡ one c → act (applied s i (effect p s i)) (s .activities) ≡ c
+      → chain (spawnerOf (applied s i (effect p s i))) test x 64 (s .activities) ≡ true → chain (spawnerOf s) test x 64 i ≡ true
+  chain-child test x d c q n h =
+      go (chain-cases (spawnerOf (applied s i (effect p s i))) (applied s i (effect p s i) .activities) (λ y a b. step-facts l ok f z i t r .spawned y b .lower a) test x 64 (s .activities)
+      (grown c q) (r .acts (ap spawns q)) h)
+    where
+      to : spawnerOf (applied s i (effect p s i)) (s .activities) ≡ i
+      to = ap (λ a. a .spawner) n ∙ spawner-new c q
+
+      go : ((spawnerOf (applied s i (effect p s i)) (s .activities) ≡ x) × (test (s .activities) ≡ true))
+          ⊎ (chain (spawnerOf (applied s i (effect p s i))) test x 64 (spawnerOf (applied s i (effect p s i)) (s .activities)) ≡ true)
+          → chain (spawnerOf s) test x 64 i ≡ true
+      go (inl m) = absurd (d (sym (m .0) ∙ to))
+      go (inr m) = sym (chain-old test x i (t .spawned)) ∙ subst (λ y. chain (spawnerOf (applied s i (effect p s i))) test x 64 y ≡ true) to m
+
+  -- who is at the end of a chain and has not ended, or another such, was there before
+  chain-before : (test : ℕ → Bool) (x : ℕ) → (x ≡ i → ⊥) → (y : ℕ) → y < applied s i (effect p s i) .activities
+      → chain (spawnerOf (applied s i (effect p s i))) test x 64 y && not (ended (applied s i (effect p s i)) y) ≡ true
+      → Witness (s .activities) (λ y. chain (spawnerOf s) test x 64 y && not (ended s y))
+  chain-before test x d y h e = go (then′ y)
+    where
+      q : (chain (spawnerOf (applied s i (effect p s i))) test x 64 y ≡ true) × (not (ended (applied s i (effect p s i)) y) ≡ true)
+      q = and-true (chain (spawnerOf (applied s i (effect p s i))) test x 64 y) _ e
+
+      by-self : chain (spawnerOf s) test x 64 i ≡ true → Witness (s .activities) (λ y. chain (spawnerOf s) test x 64 y && not (ended s y))
+      by-self u = record { at = i; below = t .spawned; passes = and-intro (chain (spawnerOf s) test x 64 i) _ u (rw (t .unended)) }
+
+      go : Now s i (effect p s i) y → Witness (s .activities) (λ y. chain (spawnerOf s) test x 64 y && not (ended s y))
+      go (self w m) = by-self (sym (chain-old test x i (t .spawned)) ∙ subst (λ y. chain (spawnerOf (applied s i (effect p s i))) test x 64 y ≡ true) w (q .0))
+      go (newborn c w n m) =
+          by-self (chain-child test x d c w (subst (λ y. act (applied s i (effect p s i)) y ≡ c) n m) (subst (λ y. chain (spawnerOf (applied s i (effect p s i))) test x 64 y ≡ true) n (q .0)))
+      go (other w n m) =
+          record { at = y; below = n h; passes = and-intro (chain (spawnerOf s) test x 64 y) _ (sym (chain-old test x y (n h)) ∙ q .0) (rw m at (q .1)) }
+
+  -- who is behind, or the one who stepped, was behind before
+  behind-before : (c n : ℕ) → c < s .clocks → (y : ℕ) → y < applied s i (effect p s i) .activities → behind (applied s i (effect p s i)) c n y ≡ true → Witness (s .activities) (behind s c n)
+  unfolding behind
+  behind-before c n m y h b =
+      let w = someBelow-witness 8 (λ k. isBehind c n (hold (act (applied s i (effect p s i)) y) k)) b in
+      go (w .at) (w .below) (w .passes) (then′ y)
+    where
+      by-self : (k : ℕ) → k < 8 → isBehind c n (hold (act s i) k) ≡ true → Witness (s .activities) (behind s c n)
+      by-self k l u = record { at = i; below = t .spawned; passes = someBelow-intro 8 (λ k. isBehind c n (hold (act s i) k)) k l u }
+
+      born : (k : ℕ) → k < 8 → (a : Activity) → effect p s i .spawned ≡ one a → isBehind c n (hold a k) ≡ true
+          → Offspring i (act s i) (here p (top (act s i)) .command) (effect p s i .spawned) → isBehind c n (hold (act s i) k) ≡ true
+      born k l a q u (childless v) = let y : _≡_ {A = ℕ} 0 1 = cc in absurd (omega arith)
+      born k l a q u (bears b j o v lend) =
+          let g : a ≡ child i (act s i) b j = cc in
+          let hs : a .holds ≡ lent j 0 (act s i .holds) = rw g (unfold child in refl) in
+          child-before c n j (act s i .holds) k (λ t. lend k l t .1) (rw hs at u)
+
+      go : (k : ℕ) → k < 8 → isBehind c n (hold (act (applied s i (effect p s i)) y) k) ≡ true → Now s i (effect p s i) y → Witness (s .activities) (behind s c n)
+      go k l u (self d q) = by-self k l (self-before c n (sh .holding) m k (rw q at u))
+      go k l u (newborn a d v q) = by-self k l (born k l a d (rw q at u) (sh .offspring))
+      go k l u (other d v q) = record { at = y; below = v h; passes = someBelow-intro 8 (λ k. isBehind c n (hold (act s y) k)) k l (rw q at u) }
+
+  -- another who can step still can
+  module _ (x : ℕ) (d : x ≡ i → ⊥) (u : Turn p s x) where
+    a : Activity
+    a = act s x
+
+    facts-x : ActivityFacts (l .phase) p (s .activities) (s .clocks) (s .accumulators) x (act s x)
+    facts-x = f .spawned x (u .spawned)
+
+    o : Command
+    o = here p (top (act s x)) .command
+
+    record-old : act (applied s i (effect p s i)) x ≡ act s x
+    record-old = act-old s i (effect p s i) x (u .spawned) d
+
+    same-fault : faultFor p (envOf (applied s i (effect p s i))) x (act s x) (here p (top (act s x)) .command) ≡ faultFor p (envOf s) x (act s x) (here p (top (act s x)) .command)
+    same-fault =
+        fault-same p s (applied s i (effect p s i)) x (act s x)
+        (λ n h e. owner-old s (effect p s i) (sh .naming) (numberUnder (act s x) n) (omega (arith, facts-x .bounds n h, eqb-false (bound (act s x) n) 0 e)))
+        (here p (top (act s x)) .command) (at-sound ok f x (u .spawned) (u .unended) .ranged)
+
+    no-wait : waitsAt p s x (act s x) (here p (top (act s x)) .command) ≡ false
+        → waitsAt p (applied s i (effect p s i)) x (act s x) (here p (top (act s x)) .command) ≡ false
+    unfolding waitsAt unendedInside unendedBelow inside descends behindOf
+    no-wait h =
+        someBelow-all (applied s i (effect p s i) .activities) (waitsFor p (applied s i (effect p s i)) x (act s x) (here p (top (act s x)) .command))
+        (λ y m e. true-false _ (wait-before p s (applied s i (effect p s i)) x (act s x) y (chain-before (leb (top (act s x) .first)) x d y m) (chain-before (λ y. true) x d y m) (at-barrier y m) (here p (top (act s x)) .command) e) h)
+      where
+        at-barrier : (y : ℕ) → y < applied s i (effect p s i) .activities
+            → someBelow 8 (λ k. holds (act s x) k && behind (applied s i (effect p s i)) (hold (act s x) k .clock) (hold (act s x) k .phase) y) ≡ true
+            → Witness (s .activities) (λ y. someBelow 8 (λ k. holds (act s x) k && behind s (hold (act s x) k .clock) (hold (act s x) k .phase) y))
+        at-barrier y m e =
+            let w = someBelow-witness 8 (λ k. holds (act s x) k && behind (applied s i (effect p s i)) (hold (act s x) k .clock) (hold (act s x) k .phase) y) e in
+            let q = and-true (holds (act s x) (w .at)) _ (w .passes) in
+            let v = behind-before (hold (act s x) (w .at) .clock) (hold (act s x) (w .at) .phase) (facts-x .held .fits (w .at) (w .below) .known (q .0)) y m (q .1) in
+            record {
+              at = v .at;
+              below = v .below;
+              passes =
+                  someBelow-intro 8 (λ k. holds (act s x) k && behind s (hold (act s x) k .clock) (hold (act s x) k .phase) (v .at)) (w .at) (w .below)
+                  (and-intro (holds (act s x) (w .at)) _ (q .0) (v .passes));
+            }
+
+    still-moves : waits p (applied s i (effect p s i)) x ≡ false
+    unfolding waits fault at
+    still-moves = rw (record-old, same-fault) (go (decide (eqb (faultFor p (envOf s) x (act s x) (here p (top (act s x)) .command)) 0)) (u .moves))
+      where
+        n : ℕ
+        n = faultFor p (envOf s) x (act s x) (here p (top (act s x)) .command)
+
+        go : (eqb n 0 ≡ true) ⊎ (eqb n 0 ≡ false) → eqb n 0 && waitsAt p s x (act s x) (here p (top (act s x)) .command) ≡ false
+            → eqb n 0 && waitsAt p (applied s i (effect p s i)) x (act s x) (here p (top (act s x)) .command) ≡ false
+        go (inl e) w = rw (e, no-wait (and-false (eqb n 0) _ w e))
+        go (inr e) w = rw e
+
+    pub turn-kept : Turn p (applied s i (effect p s i)) x
+    turn-kept = record { spawned = omega (arith, u .spawned, acts-after s i (effect p s i) .up); unended = rw record-old (u .unended); moves = still-moves }
+
+-- THE THEOREM
+
+pub can-step : (p : Program) (s : State) (x : ℕ) → canStep p s x ≡ true → Turn p s x
+unfolding canStep
+can-step p s x e = turn p s x (eqb-true (refusal p s x) 0 e)
+
+pub persists : (l : Limits) {p : Program} → Accepted p → (s : State) → Sized s → wellFormed (l .phase) p s ≡ true → (x i : ℕ) → canStep p s x ≡ true → canStep p s i ≡ true → (x ≡ i → ⊥)
+    → exceeds l p s (effect p s i) ≡ false → canStep p (applied s i (effect p s i)) x ≡ true
+unfolding canStep
+persists l {p} ok s z w x i a b d e =
+    eq-eqb (refusal p (applied s i (effect p s i)) x) 0
+    (turn-back p (applied s i (effect p s i)) x (turn-kept l ok (facts (l .phase) p s w) z i (can-step p s i b) (room l p s (effect p s i) e) x d (can-step p s x a)))
