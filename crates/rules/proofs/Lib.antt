@@ -14,5 +14,7 @@ pub mod WellFormedStart
 pub mod Bits
 pub mod StepLaws
 pub mod PersistBehind
+pub mod PersistTree
 pub mod Persist
+pub mod HistoryOpen
 mod Cases

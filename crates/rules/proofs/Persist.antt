@@ -33,6 +33,7 @@ use Rattle.rules.proofs.WellFormedShape.{Naming, Offspring, childless, 
 use Rattle.rules.proofs.WellFormedApply.{Turn, turn, turn-back, Room, room, at-sound, step-shape, Now, self, newborn, other, now, act-old, acts-after, owner-old}
 use Rattle.rules.proofs.WellFormedStep.{step-facts}
 use Rattle.rules.proofs.PersistBehind.{self-before, child-before}
+use Rattle.rules.proofs.PersistTree.{entry, chain-old, chain-child}
 
 -- FAULTS
 
@@ -101,67 +102,14 @@ wait-before p s s′ x a y ins bel beh (Atom k) e = absurd (true-false false e r
 -- THE STEP OF ANOTHER
 
 module _ (l : Limits) {p : Program} (ok : Accepted p) {s : State} (f : Facts (l .phase) p s) (z : Sized s) (i : ℕ) (t : Turn p s i) (r : Room l p s (effect p s i)) where
-  e : Effect
-  e = effect p s i
-
-  after : State
-  after = applied s i (effect p s i)
-
-  sh : Shape p s i (act s i) (here p (top (act s i)) .command) (effect p s i)
-  sh = step-shape ok f i (t .spawned) (t .unended)
-
-  then′ : (y : ℕ) → Now s i (effect p s i) y
-  then′ y = now s i (effect p s i) (z .acts64) (t .spawned) (f .acts64) (r .acts) y
-
-  -- spawners stay
-  spawner-old : (y : ℕ) → y < s .activities → spawnerOf (applied s i (effect p s i)) y ≡ spawnerOf s y
-  spawner-old y h = go (then′ y)
-    where
-      go : Now s i (effect p s i) y → spawnerOf (applied s i (effect p s i)) y ≡ spawnerOf s y
-      go (self d q) = ap (λ a. a .spawner) q ∙ sh .spawner ∙ ap (spawnerOf s) (sym d)
-      go (newborn c d n q) = absurd (omega arith)
-      go (other d n q) = ap (λ a. a .spawner) q
-
-  -- a chain from one who was there
-  chain-old : (test : ℕ → Bool) (x y : ℕ) → y < s .activities → chain (spawnerOf (applied s i (effect p s i))) test x 64 y ≡ chain (spawnerOf s) test x 64 y
-  chain-old test x y h =
-      chain-same (spawnerOf (applied s i (effect p s i))) (spawnerOf s) test test x 64 64 y
-      (λ w m n. (spawner-old w (omega arith), refl, rw (spawner-old w (omega arith)) (f .spawned w (omega arith) .lower (omega arith)))) (omega (arith, f .acts64)) (omega (arith, f .acts64))
-
-  -- the child's spawner is the one who stepped
-  spawner-new : (c : Activity) → effect p s i .spawned ≡ one c → c .spawner ≡ i
-  unfolding child
-  spawner-new c q = go (sh .offspring)
-    where
-      go : Offspring i (act s i) (here p (top (act s i)) .command) (effect p s i .spawned) → c .spawner ≡ i
-      go (childless n) = let y : _≡_ {A = ℕ} 0 1 = cc in absurd (omega arith)
-      go (bears b m o n h) = let g : c ≡ child i (act s i) b m = cc in rw g
-
-  grown : (c : Activity) → effect p s i .spawned ≡ one c → s .activities < applied s i (effect p s i) .activities
-  unfolding applied
-  grown c q = rw q (omega arith)
-
-  -- a chain from the child goes through the one who stepped
-  chain-child : (test : ℕ → Bool) (x : ℕ) → (x ≡ i → ⊥) → (c : Activity) → effect p s i .spawned ≡ one c → act (applied s i (effect p s i)) (s .activities) ≡ c
-      → chain (spawnerOf (applied s i (effect p s i))) test x 64 (s .activities) ≡ true → chain (spawnerOf s) test x 64 i ≡ true
-  chain-child test x d c q n h =
-      go (chain-cases (spawnerOf (applied s i (effect p s i))) (applied s i (effect p s i) .activities) (λ y a b. step-facts l ok f z i t r .spawned y b .lower a) test x 64 (s .activities)
-      (grown c q) (r .acts (ap spawns q)) h)
-    where
-      to : spawnerOf (applied s i (effect p s i)) (s .activities) ≡ i
-      to = ap (λ a. a .spawner) n ∙ spawner-new c q
-
-      go : ((spawnerOf (applied s i (effect p s i)) (s .activities) ≡ x) × (test (s .activities) ≡ true))
-          ⊎ (chain (spawnerOf (applied s i (effect p s i))) test x 64 (spawnerOf (applied s i (effect p s i)) (s .activities)) ≡ true)
-          → chain (spawnerOf s) test x 64 i ≡ true
-      go (inl m) = absurd (d (sym (m .0) ∙ to))
-      go (inr m) = sym (chain-old test x i (t .spawned)) ∙ subst (λ y. chain (spawnerOf (applied s i (effect p s i))) test x 64 y ≡ true) to m
+  shape-of : Shape p s i (act s i) (here p (top (act s i)) .command) (effect p s i)
+  shape-of = step-shape ok f i (t .spawned) (t .unended)
 
   -- who is at the end of a chain and has not ended, or another such, was there before
   chain-before : (test : ℕ → Bool) (x : ℕ) → (x ≡ i → ⊥) → (y : ℕ) → y < applied s i (effect p s i) .activities
       → chain (spawnerOf (applied s i (effect p s i))) test x 64 y && not (ended (applied s i (effect p s i)) y) ≡ true
       → Witness (s .activities) (λ y. chain (spawnerOf s) test x 64 y && not (ended s y))
-  chain-before test x d y h e = go (then′ y)
+  chain-before test x d y h e = go (entry l ok f z i t r y)
     where
       q : (chain (spawnerOf (applied s i (effect p s i))) test x 64 y ≡ true) × (not (ended (applied s i (effect p s i)) y) ≡ true)
       q = and-true (chain (spawnerOf (applied s i (effect p s i))) test x 64 y) _ e
@@ -170,18 +118,18 @@ module _ (l : Limits) {p : Program} (ok : Accepted p) {s : State} (f : Facts (l 
       by-self u = record { at = i; below = t .spawned; passes = and-intro (chain (spawnerOf s) test x 64 i) _ u (rw (t .unended)) }
 
       go : Now s i (effect p s i) y → Witness (s .activities) (λ y. chain (spawnerOf s) test x 64 y && not (ended s y))
-      go (self w m) = by-self (sym (chain-old test x i (t .spawned)) ∙ subst (λ y. chain (spawnerOf (applied s i (effect p s i))) test x 64 y ≡ true) w (q .0))
+      go (self w m) = by-self (sym (chain-old l ok f z i t r test x i (t .spawned)) ∙ subst (λ y. chain (spawnerOf (applied s i (effect p s i))) test x 64 y ≡ true) w (q .0))
       go (newborn c w n m) =
-          by-self (chain-child test x d c w (subst (λ y. act (applied s i (effect p s i)) y ≡ c) n m) (subst (λ y. chain (spawnerOf (applied s i (effect p s i))) test x 64 y ≡ true) n (q .0)))
+          by-self (chain-child l ok f z i t r test x d c w (subst (λ y. act (applied s i (effect p s i)) y ≡ c) n m) (subst (λ y. chain (spawnerOf (applied s i (effect p s i))) test x 64 y ≡ true) n (q .0)))
       go (other w n m) =
-          record { at = y; below = n h; passes = and-intro (chain (spawnerOf s) test x 64 y) _ (sym (chain-old test x y (n h)) ∙ q .0) (rw m at (q .1)) }
+          record { at = y; below = n h; passes = and-intro (chain (spawnerOf s) test x 64 y) _ (sym (chain-old l ok f z i t r test x y (n h)) ∙ q .0) (rw m at (q .1)) }
 
   -- who is behind, or the one who stepped, was behind before
   behind-before : (c n : ℕ) → c < s .clocks → (y : ℕ) → y < applied s i (effect p s i) .activities → behind (applied s i (effect p s i)) c n y ≡ true → Witness (s .activities) (behind s c n)
   unfolding behind
   behind-before c n m y h b =
       let w = someBelow-witness 8 (λ k. isBehind c n (hold (act (applied s i (effect p s i)) y) k)) b in
-      go (w .at) (w .below) (w .passes) (then′ y)
+      go (w .at) (w .below) (w .passes) (entry l ok f z i t r y)
     where
       by-self : (k : ℕ) → k < 8 → isBehind c n (hold (act s i) k) ≡ true → Witness (s .activities) (behind s c n)
       by-self k l u = record { at = i; below = t .spawned; passes = someBelow-intro 8 (λ k. isBehind c n (hold (act s i) k)) k l u }
@@ -195,8 +143,8 @@ module _ (l : Limits) {p : Program} (ok : Accepted p) {s : State} (f : Facts (l 
           child-before c n j (act s i .holds) k (λ t. lend k l t .1) (rw hs at u)
 
       go : (k : ℕ) → k < 8 → isBehind c n (hold (act (applied s i (effect p s i)) y) k) ≡ true → Now s i (effect p s i) y → Witness (s .activities) (behind s c n)
-      go k l u (self d q) = by-self k l (self-before c n (sh .holding) m k (rw q at u))
-      go k l u (newborn a d v q) = by-self k l (born k l a d (rw q at u) (sh .offspring))
+      go k l u (self d q) = by-self k l (self-before c n (shape-of .holding) m k (rw q at u))
+      go k l u (newborn a d v q) = by-self k l (born k l a d (rw q at u) (shape-of .offspring))
       go k l u (other d v q) = record { at = y; below = v h; passes = someBelow-intro 8 (λ k. isBehind c n (hold (act s y) k)) k l (rw q at u) }
 
   -- another who can step still can
@@ -216,7 +164,7 @@ module _ (l : Limits) {p : Program} (ok : Accepted p) {s : State} (f : Facts (l 
     same-fault : faultFor p (envOf (applied s i (effect p s i))) x (act s x) (here p (top (act s x)) .command) ≡ faultFor p (envOf s) x (act s x) (here p (top (act s x)) .command)
     same-fault =
         fault-same p s (applied s i (effect p s i)) x (act s x)
-        (λ n h e. owner-old s (effect p s i) (sh .naming) (numberUnder (act s x) n) (omega (arith, facts-x .bounds n h, eqb-false (bound (act s x) n) 0 e)))
+        (λ n h e. owner-old s (effect p s i) (shape-of .naming) (numberUnder (act s x) n) (omega (arith, facts-x .bounds n h, eqb-false (bound (act s x) n) 0 e)))
         (here p (top (act s x)) .command) (at-sound ok f x (u .spawned) (u .unended) .ranged)
 
     no-wait : waitsAt p s x (act s x) (here p (top (act s x)) .command) ≡ false
