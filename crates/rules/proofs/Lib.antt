@@ -17,4 +17,5 @@ pub mod PersistBehind
 pub mod PersistTree
 pub mod Persist
 pub mod HistoryOpen
+pub mod History
 mod Cases

@@ -25,10 +25,10 @@ use Rattle.rules.proofs.WellFormedFacts.{ActivityFacts, Facts, formed}
 use Rattle.rules.proofs.WellFormedStep.{stack-none}
 
 -- main, at the start
-abbrev main : Activity
+abbrev pub main : Activity
 main = withFrames noActivity 1 noFrames
 
-start-main : act startState 0 ≡ main
+pub start-main : act startState 0 ≡ main
 start-main = getD-set-same (zeroState .acts) 0 main absent (omega (arith, length-replicate 64 noActivity))
 
 start-other : (i : ℕ) → 0 < i → i < 64 → act startState i ≡ noActivity
