@@ -1,16 +1,16 @@
 -- The bits of a number made of tests: bit i is test i below the bound, and 0 from there on. So the number is 0 exactly when no test passes.
 use Prim.Native.Nat.{ℕ, zero, suc, _+_, _-_, _*_, _/_, _%_, _^_, _≤_, _<_}
 use native.Mathlib.Omega.{arith}
-use native.Mathlib.Nat.{not-suc-le-zero, zero-div, div-eq-of-lt, add-div-right, add-mul-div-right, add-mul-mod-self-right}
+use native.Mathlib.Nat.{not-suc-le-zero, div-eq-of-lt, add-div-right, add-mul-div-right, add-mul-mod-self-right}
 use native.Mathlib.Decide.{ℕ-discrete}
 use mathlib.Core.Bool.{Bool, true, false, cond}
-use mathlib.Core.Path.{_≡_, refl, sym, ap, _∙_, subst}
+use mathlib.Core.Path.{_≡_, refl, sym, ap, _∙_}
 use mathlib.Core.Logic.{_⊎_, inl, inr}
 use lib.Dec.{eqb}
-use lib.Pow.{pow-pos, pow-mono, pow-add, add-lt-pow}
+use lib.Pow.{pow-pos, pow-mono, pow-add}
 use Rattle.rules.specs.Search.{bitsBelow}
 use Rattle.rules.specs.Faults.{bit}
-use Rattle.rules.proofs.Tests.{true-false, decide}
+use Rattle.rules.proofs.Tests.{decide}
 
 pub bits-below : (n : ℕ) (f : ℕ → Bool) → bitsBelow n f < 2 ^ n
 unfolding bitsBelow

@@ -1,18 +1,15 @@
 -- The sentence "It is inside a finish if it was spawned by the owner during that body, or by an activity inside", told by the run itself, and what a state's numbers
 -- say of it are the same at every point of a run. Along the way: an open FINISH body began when there were more activities than its owner's number, and no
 -- more than now.
-use Prim.Native.Nat.{ℕ, zero, suc, _+_, _-_, _≤_, _<_}
+use Prim.Native.Nat.{ℕ, zero, suc, _-_, _≤_, _<_}
 use native.Mathlib.Omega.{arith}
-use native.Mathlib.Nat.{not-suc-le-zero}
 use native.Mathlib.Decide.{ℕ-discrete}
 use mathlib.Core.List.{List, [], _∷_}
-use mathlib.Core.Bool.{Bool, true, false, cond, _||_, _&&_, not}
+use mathlib.Core.Bool.{Bool, true, false, cond, _||_, _&&_}
 use mathlib.Core.Path.{_≡_, refl, sym, ap, _∙_, subst}
 use mathlib.Core.Logic.{_⊎_, inl, inr}
-use lib.ListN.{length, getD}
 use lib.Dec.{ltb, leb, eqb}
-use borrow.Author.Tests.{ltb-true, lt-ltb, le-leb, lt-leb, eqb-true, eq-eqb, ne-eqb}
-use Rattle.program.specs.declared.command.Command.{Command}
+use borrow.Author.Tests.{ltb-true, lt-ltb, le-leb, lt-leb, eq-eqb, ne-eqb}
 use Rattle.program.specs.Command.{opcode}
 use Rattle.program.specs.Bodies.{Program, programOf}
 use Rattle.program.specs.Table.{numberOf}
@@ -20,16 +17,16 @@ use Rattle.program.proofs.Shape.{Accepted}
 use Rattle.rules.specs.declared.state.Activity.{Activity}
 use Rattle.rules.specs.declared.state.State.{State}
 use Rattle.rules.specs.Search.{chain}
-use Rattle.rules.specs.State.{act, frame, top, isEnded, ended}
+use Rattle.rules.specs.State.{act, frame, top, ended}
 use Rattle.rules.specs.Tree.{here, isFinish, finishes, spawnerOf, inside}
-use Rattle.rules.specs.Effects.{Spawned, nobody, one, child, applied}
+use Rattle.rules.specs.Effects.{one, child, applied}
 use Rattle.rules.specs.Steps.{Limits, at, effect, spawns, startState, startWith, start, step}
 use Rattle.rules.specs.Runs.{isAccepted, runFrom, run}
 use Rattle.rules.specs.History.{Insides, noInsides, isFinishBody, beginsFinish, spawnsNow, insidesAfter, insidesFrom, insides}
-use Rattle.rules.proofs.Tests.{and-true, and-intro, true-false, decide}
+use Rattle.rules.proofs.Tests.{true-false, decide}
 use Rattle.rules.proofs.Search.{chain-step}
 use Rattle.rules.proofs.Sized.{Sized}
-use Rattle.rules.proofs.WellFormedFacts.{ActivityFacts, Facts, facts}
+use Rattle.rules.proofs.WellFormedFacts.{Facts, facts}
 use Rattle.rules.proofs.WellFormedShape.{Offspring, childless, bears, Shape}
 use Rattle.rules.proofs.WellFormedApply.{Turn, turn, Room, room, step-shape, Now, self, newborn, other}
 use Rattle.rules.proofs.WellFormedStep.{step-facts, step-sized}

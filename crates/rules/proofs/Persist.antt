@@ -1,12 +1,10 @@
 -- An activity that can step keeps that right while another steps, in every well-formed state, reached or not. Its record is untouched; it meets the same fault
 -- or none, since accumulators keep their owners; and whom it would wait for after the step it waited for before.
-use Prim.Native.Nat.{ℕ, zero, suc, _+_, _-_, _≤_, _<_}
+use Prim.Native.Nat.{ℕ, _<_}
 use native.Mathlib.Omega.{arith}
-use mathlib.Core.List.{List, [], _∷_}
-use mathlib.Core.Bool.{Bool, true, false, cond, _||_, _&&_, not}
-use mathlib.Core.Path.{_≡_, refl, sym, ap, _∙_, subst}
+use mathlib.Core.Bool.{Bool, true, false, _&&_, not}
+use mathlib.Core.Path.{_≡_, refl, sym, _∙_, subst}
 use mathlib.Core.Logic.{_⊎_, inl, inr}
-use lib.ListN.{length, getD}
 use lib.Dec.{ltb, leb, eqb}
 use borrow.Author.Tests.{ltb-true, eqb-true, eqb-false, eq-eqb}
 use Rattle.program.specs.declared.command.Command.{Command}
@@ -17,21 +15,20 @@ use Rattle.program.proofs.Shape.{Accepted, Ranged}
 use Rattle.rules.specs.declared.state.Activity.{Activity}
 use Rattle.rules.specs.declared.state.State.{State}
 use Rattle.rules.specs.Search.{someBelow, chain}
-use Rattle.rules.specs.State.{act, top, hold, accumulator, bound, isEnded, isAtBarrier, ended}
-use Rattle.rules.specs.Clocks.{isHeld, isLive, holds, holdsSome, isBehind, behind}
+use Rattle.rules.specs.State.{act, top, hold, accumulator, bound, isAtBarrier, ended}
+use Rattle.rules.specs.Clocks.{holds, isBehind, behind}
 use Rattle.rules.specs.Tree.{here, spawnerOf, inFinishBody, descends, inside}
-use Rattle.rules.specs.Faults.{bit, unbound, numberUnder, readFault, faultFor}
+use Rattle.rules.specs.Faults.{unbound, numberUnder, readFault, faultFor}
 use Rattle.rules.specs.Waiting.{behindOf, unendedBelow, unendedInside, waitsFor, waitsAt}
-use Rattle.rules.specs.Effects.{Spawned, nobody, one, Effect, lent, child, envOf, applied}
+use Rattle.rules.specs.Effects.{one, lent, child, envOf, applied}
 use Rattle.rules.specs.WellFormed.{wellFormed}
-use Rattle.rules.specs.Steps.{Limits, at, fault, waits, effect, refusal, spawns, exceeds, canStep}
-use Rattle.rules.proofs.Tests.{and-true, and-intro, and-false, not-true, true-false, decide}
-use Rattle.rules.proofs.Search.{Witness, someBelow-witness, someBelow-intro, someBelow-none, someBelow-all, chain-same, chain-cases}
+use Rattle.rules.specs.Steps.{Limits, at, fault, waits, effect, refusal, exceeds, canStep}
+use Rattle.rules.proofs.Tests.{and-true, and-intro, and-false, true-false, decide}
+use Rattle.rules.proofs.Search.{Witness, someBelow-witness, someBelow-intro, someBelow-all}
 use Rattle.rules.proofs.Sized.{Sized}
 use Rattle.rules.proofs.WellFormedFacts.{ActivityFacts, Facts, facts}
-use Rattle.rules.proofs.WellFormedShape.{Naming, Offspring, childless, bears, Shape}
-use Rattle.rules.proofs.WellFormedApply.{Turn, turn, turn-back, Room, room, at-sound, step-shape, Now, self, newborn, other, now, act-old, acts-after, owner-old}
-use Rattle.rules.proofs.WellFormedStep.{step-facts}
+use Rattle.rules.proofs.WellFormedShape.{Offspring, childless, bears, Shape}
+use Rattle.rules.proofs.WellFormedApply.{Turn, turn, turn-back, Room, room, at-sound, step-shape, Now, self, newborn, other, act-old, acts-after, owner-old}
 use Rattle.rules.proofs.PersistBehind.{self-before, child-before}
 use Rattle.rules.proofs.PersistTree.{entry, chain-old, chain-child}
 

@@ -1,23 +1,23 @@
 -- Nobody falls behind: a hold that keeps a phase of a made clock from being quiescent after a step did so before it, in the one who stepped. A phase only rises,
 -- passing makes live only in a later phase, and a child is lent only what its spawner holds live.
-use Prim.Native.Nat.{ℕ, zero, suc, _+_, _-_, _≤_, _<_}
+use Prim.Native.Nat.{ℕ, _<_}
 use native.Mathlib.Omega.{arith}
-use mathlib.Core.List.{List, [], _∷_, map}
-use mathlib.Core.Bool.{Bool, true, false, cond, _||_, _&&_, not}
-use mathlib.Core.Path.{_≡_, refl, sym, ap, _∙_, subst}
+use mathlib.Core.List.{List, map}
+use mathlib.Core.Bool.{Bool, true, false, _||_, _&&_}
+use mathlib.Core.Path.{_≡_, refl, sym, ap, _∙_}
 use mathlib.Core.Logic.{_⊎_, inl, inr}
-use lib.ListN.{length, getD, set, replicate}
-use lib.Dec.{ltb, leb, eqb}
+use lib.ListN.{set}
+use lib.Dec.{ltb, eqb}
 use borrow.Author.Tests.{ltb-true, lt-ltb, eqb-true, eq-eqb}
 use Rattle.rules.specs.declared.state.Registration.{Registration}
 use Rattle.rules.specs.declared.state.Registration.the-variants.{Free, Live, Quiesced}
 use Rattle.rules.specs.declared.state.Hold.{Hold}
 use Rattle.rules.specs.declared.state.Activity.{Activity}
 use Rattle.rules.specs.State.{noHold, hold}
-use Rattle.rules.specs.Clocks.{isHeld, isLive, holds, isBehind, quiesced, quiesce, revived, pass}
+use Rattle.rules.specs.Clocks.{isHeld, isLive, holds, isBehind, quiesced, quiesce, pass}
 use Rattle.rules.specs.Faults.{bit}
 use Rattle.rules.specs.Effects.{lent}
-use Rattle.rules.proofs.Tests.{and-true, and-intro, or-true, or-left, or-right, true-false, decide}
+use Rattle.rules.proofs.Tests.{and-true, and-intro, or-true, or-left, or-right, true-false}
 use Rattle.rules.proofs.Lists.{Stored, new, old, stored}
 use Rattle.rules.proofs.WellFormedHolds.{named, named-none, named-map, quiesced-held, revived-held, Lent, lends, lent-held}
 use Rattle.rules.proofs.WellFormedShape.{Holding, same, quiesces, passes, clocks, resumes, drops, leaves}

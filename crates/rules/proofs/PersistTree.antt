@@ -1,7 +1,7 @@
 -- The tree of activities after a step: spawners stay, the child's spawner is the one who stepped, and so chains of spawners from those who were there stay too.
-use Prim.Native.Nat.{ℕ, zero, suc, _+_, _-_, _≤_, _<_}
+use Prim.Native.Nat.{ℕ, _<_}
 use native.Mathlib.Omega.{arith}
-use mathlib.Core.Bool.{Bool, true, false, cond, _||_, _&&_, not}
+use mathlib.Core.Bool.{Bool, true}
 use mathlib.Core.Path.{_≡_, refl, sym, ap, _∙_, subst}
 use mathlib.Core.Logic.{_⊎_, inl, inr}
 use Rattle.program.specs.Bodies.{Program}
@@ -11,9 +11,9 @@ use Rattle.rules.specs.declared.state.State.{State}
 use Rattle.rules.specs.Search.{chain}
 use Rattle.rules.specs.State.{act, top}
 use Rattle.rules.specs.Tree.{here, spawnerOf}
-use Rattle.rules.specs.Effects.{Spawned, nobody, one, child, applied}
+use Rattle.rules.specs.Effects.{one, child, applied}
 use Rattle.rules.specs.Steps.{Limits, effect, spawns}
-use Rattle.rules.proofs.Search.{chain-same, chain-cases, chain-step}
+use Rattle.rules.proofs.Search.{chain-same, chain-cases}
 use Rattle.rules.proofs.Sized.{Sized}
 use Rattle.rules.proofs.WellFormedFacts.{Facts}
 use Rattle.rules.proofs.WellFormedShape.{Offspring, childless, bears, Shape}

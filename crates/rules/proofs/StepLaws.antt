@@ -1,31 +1,34 @@
 -- What a call of the step does, as one of two cases: it is turned down and returns the state it was handed, or it is taken. So an accepted step raises the
 -- steps by one, and the ready set tells of each activity whether the step turns it down with 14 to 16.
-use Prim.Native.Nat.{ℕ, zero, suc, _+_, _-_, _≤_, _<_}
+use Prim.Native.Nat.{ℕ, _+_, _≤_, _<_}
 use native.Mathlib.Omega.{arith}
 use native.Mathlib.Decide.{decLt}
-use mathlib.Core.List.{List, [], _∷_}
-use mathlib.Core.Bool.{Bool, true, false, cond, _||_, _&&_, not}
+use mathlib.Core.List.{List}
+use mathlib.Core.Bool.{Bool, true, false, cond}
 use mathlib.Core.Path.{_≡_, refl, sym, ap, _∙_, subst}
 use mathlib.Core.Logic.{_⊎_, inl, inr}
-use lib.Dec.{ltb, leb, eqb}
-use borrow.Author.Tests.{ltb-true, le-ltb, eqb-true, eq-eqb, eqb-false, ne-eqb}
+use lib.Dec.{ltb, eqb}
+use borrow.Author.Tests.{le-ltb, eqb-true, eqb-false, ne-eqb}
 use Rattle.program.specs.Bodies.{Program, programOf}
 use Rattle.program.specs.Table.{numberOf}
-use Rattle.rules.specs.declared.state.Status.{Status}
 use Rattle.rules.specs.declared.state.State.{State}
 use Rattle.rules.specs.declared.answer.Answer.{Answer}
 use Rattle.rules.specs.declared.answer.Answer.the-variants.{Accepted, Refused}
-use Rattle.rules.specs.declared.answer.Stepped.{Stepped}
 use Rattle.rules.specs.Search.{bitsBelow}
 use Rattle.rules.specs.State.{ended}
 use Rattle.rules.specs.Faults.{bit}
-use Rattle.rules.specs.Effects.{Effect, applied}
+use Rattle.rules.specs.Effects.{applied}
 use Rattle.rules.specs.WellFormed.{wellFormed}
 use Rattle.rules.specs.Steps.{Limits, waits, effect, refusal, exceeds, stepped, advance, unfit, stepWith, step, canStep, ready}
 use Rattle.rules.specs.Runs.{isAccepted}
 use Rattle.rules.proofs.Tests.{true-false, decide}
 use Rattle.rules.proofs.Bits.{bit-at, bit-past}
 use Rattle.rules.proofs.WellFormedFacts.{Facts, facts}
+
+-- an accepted table and a well-formed state
+pub fit : (l : Limits) (t : List ℕ) (s : State) → numberOf (l .work) t ≡ 0 → wellFormed (l .phase) (programOf t) s ≡ true → unfit l (numberOf (l .work) t) (programOf t) s ≡ 0
+unfolding unfit
+fit l t s n w = rw (n, w)
 
 module _ (l : Limits) (t : List ℕ) (s : State) (i : ℕ) where
   abbrev p : Program
@@ -47,10 +50,6 @@ module _ (l : Limits) (t : List ℕ) (s : State) (i : ℕ) where
       go n true e (inl h) = (eqb-true n 0 h, refl)
       go n false e (inl h) = let z : _≡_ {A = ℕ} 13 0 = rw h at e in absurd (omega arith)
       go n w e (inr h) = absurd (eqb-false n 0 h (rw h at e))
-
-  pub fit : numberOf (l .work) t ≡ 0 → wellFormed (l .phase) p s ≡ true → unfit l (numberOf (l .work) t) p s ≡ 0
-  unfolding unfit
-  fit n w = rw (n, w)
 
   pub outcome : Outcome
   unfolding step stepWith advance
@@ -115,7 +114,7 @@ refusal-not17 p s i = go (ltb i (s .activities)) (ended s i) (waits p s i)
 module _ (l : Limits) (t : List ℕ) (s : State) (number : numberOf (l .work) t ≡ 0) (formed : wellFormed (l .phase) (programOf t) s ≡ true) where
   pub ready-bit : (i : ℕ) → bit (ready l t s .set) i ≡ canStep (programOf t) s i
   unfolding ready canStep
-  ready-bit i = rw (fit l t s i number formed) (go (decLt i 64))
+  ready-bit i = rw (fit l t s number formed) (go (decLt i 64))
     where
       f : Facts (l .phase) (programOf t) s
       f = facts (l .phase) (programOf t) s formed
@@ -129,7 +128,7 @@ module _ (l : Limits) (t : List ℕ) (s : State) (number : numberOf (l .work) t 
   ready-agrees i = ready-bit i ∙ go (outcome l t s i)
     where
       go : Outcome l t s i → eqb (refusal (programOf t) s i) 0 ≡ mayGo (step l t s i .answer)
-      go (unfits n q h d) = absurd (h (sym q ∙ fit l t s i number formed))
+      go (unfits n q h d) = absurd (h (sym q ∙ fit l t s number formed))
       go (refuses n q h d) = rw (d, q, ne-eqb n 0 h) (sym (subst (λ k. eqb k 17 ≡ false) q (refusal-not17 (programOf t) s i)))
       go (overflows q d) = rw (d, q)
       go (takes a b c x d) = rw (d, c)

@@ -1,22 +1,18 @@
 -- What a step is made of, and what each entry of a state is after an effect: the activity's own new record, the child, or what it was.
-use Prim.Native.Nat.{ℕ, zero, suc, _+_, _-_, _≤_, _<_}
+use Prim.Native.Nat.{ℕ, _+_, _-_, _≤_, _<_}
 use native.Mathlib.Omega.{arith}
-use native.Mathlib.Decide.{ℕ-discrete, decLt}
-use mathlib.Core.List.{List, [], _∷_, map}
-use mathlib.Core.Bool.{Bool, true, false, cond, _||_, _&&_, not}
-use mathlib.Core.Path.{_≡_, refl, sym, ap, _∙_, subst}
-use mathlib.Core.Logic.{_⊎_, inl, inr}
-use lib.ListN.{length, getD, set, replicate, length-set}
+use native.Mathlib.Decide.{ℕ-discrete}
+use mathlib.Core.Bool.{Bool, true, false, cond, _||_, _&&_}
+use mathlib.Core.Path.{_≡_, refl, sym, ap, _∙_}
+use lib.ListN.{length, getD, set, length-set}
 use lib.Seq.{getD-set-same, getD-set-other}
 use lib.Dec.{ltb, leb, eqb}
-use borrow.Author.Tests.{ltb-true, ltb-false, lt-ltb, leb-false, eqb-true, eq-eqb, eqb-false}
-use Rattle.program.specs.declared.command.Command.{Command}
+use borrow.Author.Tests.{ltb-true, ltb-false, lt-ltb, leb-false, eqb-true}
 use Rattle.program.specs.Bodies.{Program}
 use Rattle.program.specs.Count.{workOf}
 use Rattle.program.proofs.Shape.{Accepted, Sound}
-use Rattle.rules.specs.declared.state.Status.the-variants.{Running, AtBarrier, Ended, Faulted}
+use Rattle.rules.specs.declared.state.Status.the-variants.{Faulted}
 use Rattle.rules.specs.declared.state.Activity.{Activity}
-use Rattle.rules.specs.declared.state.Accumulator.{Accumulator}
 use Rattle.rules.specs.declared.state.State.{State}
 use Rattle.rules.specs.Search.{someBelow}
 use Rattle.rules.specs.State.{faultOf, noAccumulator, absent, act, top, hold, accumulator, ended}
@@ -24,13 +20,11 @@ use Rattle.rules.specs.Tree.{here}
 use Rattle.rules.specs.Faults.{faultFor}
 use Rattle.rules.specs.Effects.{Spawned, nobody, one, Write, keep, make, offer, reset, Effect, spawnedCount, clockedCount, writtenCount, withValue, effectOf, failing, envOf, applied}
 use Rattle.rules.specs.Steps.{Limits, at, fault, waits, effect, refusal, spawns, makes, exceeds}
-use Rattle.rules.proofs.Tests.{and-true, and-intro, and-false, true-false, decide}
+use Rattle.rules.proofs.Tests.{and-false, true-false}
 use Rattle.rules.proofs.Search.{someBelow-none}
 use Rattle.rules.proofs.Lists.{Stored, new, old, stored}
-use Rattle.rules.proofs.Sized.{SizedActivity, Sized}
 use Rattle.rules.proofs.WellFormedPlaces.{placed-sound}
-use Rattle.rules.proofs.WellFormedStack.{Stack}
-use Rattle.rules.proofs.WellFormedFacts.{ActivityFacts, Facts}
+use Rattle.rules.proofs.WellFormedFacts.{Facts}
 use Rattle.rules.proofs.WellFormedShape.{Shape, fails, shape, Naming, keeps, adds, offers, resets}
 
 -- WHO MAY STEP

@@ -1,13 +1,11 @@
 -- A well-formed state as facts, and back.
-use Prim.Native.Nat.{ℕ, zero, suc, _+_, _-_, _≤_, _<_}
+use Prim.Native.Nat.{ℕ, zero, suc, _≤_, _<_}
 use native.Mathlib.Omega.{arith}
-use mathlib.Core.Bool.{Bool, true, false, cond, _||_, _&&_, not}
-use mathlib.Core.Path.{_≡_, refl, sym, ap, _∙_, subst}
+use mathlib.Core.Bool.{true, false, cond, _||_, _&&_, not}
+use mathlib.Core.Path.{_≡_, refl}
 use mathlib.Core.Logic.{_⊎_, inl, inr}
-use lib.ListN.{length, getD}
 use lib.Dec.{ltb, leb, eqb}
 use borrow.Author.Tests.{ltb-true, ltb-false, lt-ltb, le-ltb, leb-true, le-leb, eqb-true, eq-eqb}
-use Rattle.program.specs.declared.command.Command.{Command}
 use Rattle.program.specs.Command.{opcode}
 use Rattle.program.specs.Bodies.{Program}
 use Rattle.program.specs.Count.{workOf}
@@ -18,7 +16,7 @@ use Rattle.rules.specs.State.{act, top, accumulator, bound, isEnded, isA
 use Rattle.rules.specs.Clocks.{holds, holdsSome}
 use Rattle.rules.specs.Tree.{here}
 use Rattle.rules.specs.WellFormed.{isNoAccumulator, isNoActivity, stackFits, bodyFits, barrierFits, holdFits, namesFit, spawnerFits, activityFits, countsFit, activitiesFit, accumulatorsFit, wellFormed}
-use Rattle.rules.proofs.Tests.{and-true, and-intro, or-left, or-right, not-true, true-false, decide}
+use Rattle.rules.proofs.Tests.{and-true, and-intro, not-true, true-false, decide}
 use Rattle.rules.proofs.Search.{allBelow-at, allBelow-intro, someBelow-none, someBelow-all}
 use Rattle.rules.proofs.WellFormedStack.{Stack, stack, stack-back, stack-more}
 use Rattle.rules.proofs.WellFormedHolds.{Held, held, held-back, held-more}

@@ -1,26 +1,25 @@
 -- The clock names of a well-formed activity as facts: a held clock was made and its phase is in range, a free entry is all 0, no clock has two names. They are
 -- kept when one entry is set, all are changed alike, none is left, or some are lent to a child.
-use Prim.Native.Nat.{ℕ, zero, suc, _+_, _-_, _≤_, _<_}
+use Prim.Native.Nat.{ℕ, zero, suc, _+_, _≤_, _<_}
 use native.Mathlib.Omega.{arith}
-use native.Mathlib.Decide.{ℕ-discrete, decLt}
 use mathlib.Core.List.{List, [], _∷_, map}
 use mathlib.Core.Bool.{Bool, true, false, cond, _||_, _&&_, not}
 use mathlib.Core.Path.{_≡_, refl, sym, ap, _∙_, subst}
 use mathlib.Core.Logic.{_⊎_, inl, inr}
-use lib.ListN.{length, getD, set, replicate, List·getD-map}
+use lib.ListN.{getD, set, replicate, List·getD-map}
 use lib.Dec.{ltb, leb, eqb}
-use borrow.Author.Tests.{ltb-true, lt-ltb, leb-true, le-leb, eqb-true, eqb-false, eq-eqb, ne-eqb}
+use borrow.Author.Tests.{ltb-true, lt-ltb, leb-true, le-leb, eqb-true, eq-eqb, ne-eqb}
 use Rattle.rules.specs.declared.state.Registration.{Registration}
 use Rattle.rules.specs.declared.state.Registration.the-variants.{Free, Live, Quiesced}
 use Rattle.rules.specs.declared.state.Hold.{Hold}
 use Rattle.rules.specs.declared.state.Activity.{Activity}
 use Rattle.rules.specs.Search.{allBelow}
 use Rattle.rules.specs.State.{registrationNumber, noHold, noHolds, hold}
-use Rattle.rules.specs.Clocks.{isHeld, isLive, holds, quiesced, quiesce, revived, pass}
+use Rattle.rules.specs.Clocks.{isHeld, holds, quiesced, revived}
 use Rattle.rules.specs.Faults.{bit}
 use Rattle.rules.specs.Effects.{lent}
 use Rattle.rules.specs.WellFormed.{isNoHold, holdFits, namesFit}
-use Rattle.rules.proofs.Tests.{and-true, and-intro, or-true, or-left, or-right, not-true, true-false, decide}
+use Rattle.rules.proofs.Tests.{and-true, and-intro, not-true, true-false, decide}
 use Rattle.rules.proofs.Search.{allBelow-at, allBelow-intro}
 use Rattle.rules.proofs.Lists.{Stored, new, old, stored}
 

@@ -1,21 +1,19 @@
 -- Places of an accepted table: where a frame stands, the command there is sound, and past a command that is not END there is a next one.
-use Prim.Native.Nat.{ℕ, zero, suc, _+_, _-_, _≤_, _<_}
-use native.Mathlib.Omega.{arith}
-use mathlib.Core.List.{List, [], _∷_}
-use mathlib.Core.Bool.{Bool, true, false, cond, _||_, _&&_, not}
-use mathlib.Core.Path.{_≡_, refl, sym, ap, _∙_, subst}
+use Prim.Native.Nat.{ℕ, _<_}
+use mathlib.Core.List.{[], _∷_}
+use mathlib.Core.Bool.{true, false, cond, _||_}
+use mathlib.Core.Path.{_≡_, refl}
 use mathlib.Core.Logic.{_⊎_, inl, inr}
 use lib.ListN.{length, getD}
-use lib.Dec.{ltb, leb, eqb}
-use borrow.Author.Tests.{ltb-true, lt-ltb, eqb-true, eq-eqb}
-use Rattle.program.specs.declared.command.Command.{Command}
+use lib.Dec.{ltb, eqb}
+use borrow.Author.Tests.{ltb-true, lt-ltb, eq-eqb}
 use Rattle.program.specs.Command.{isEnd}
-use Rattle.program.specs.Bodies.{Located, Body, Program, from, isPlace, headOf, tailOf}
+use Rattle.program.specs.Bodies.{Body, Program, from, isPlace, headOf, tailOf}
 use Rattle.program.proofs.Shape.{Sound, Shaped, Accepted}
 use Rattle.rules.specs.declared.state.Frame.{Frame}
 use Rattle.rules.specs.Tree.{rest, here, nextOffset}
 use Rattle.rules.specs.WellFormed.{isPlaced}
-use Rattle.rules.proofs.Tests.{and-true, and-intro, or-true, or-left, or-right, true-false, decide}
+use Rattle.rules.proofs.Tests.{and-true, and-intro, or-left, or-right, true-false, decide}
 
 -- the command at a place is sound
 at-sound : (n b : ℕ) (l : Body) (at : ℕ) → Shaped n b l → isPlace l at ≡ true → Sound n b (headOf (from l at))
@@ -51,22 +49,6 @@ at-next n b (x ∷ (y ∷ r)) at s e g = go (at-next n b (y ∷ r) at (s .3)) (d
         → isPlace (x ∷ (y ∷ r)) (headOf (tailOf (cond (eqb (x .offset) at) (x ∷ (y ∷ r)) (from (y ∷ r) at))) .offset) ≡ true
     go ih (inl q) = rw q (or-right (eqb (x .offset) (y .offset)) _ (or-left (eqb (y .offset) (y .offset)) _ (eq-eqb (y .offset) (y .offset) refl)))
     go ih (inr q) = rw q (or-right (eqb (x .offset) (headOf (tailOf (from (y ∷ r) at)) .offset)) _ (ih (rw q at e) (rw q at g)))
-
--- at END nothing is left
-at-end : (n b : ℕ) (l : Body) (at : ℕ) → Shaped n b l → isPlace l at ≡ true → isEnd (headOf (from l at) .command) ≡ true → tailOf (from l at) ≡ []
-unfolding Shaped isPlace from
-at-end n b [] at s e g = absurd s
-at-end n b (x ∷ []) at s e g = go (decide (eqb (x .offset) at))
-  where
-    go : (eqb (x .offset) at ≡ true) ⊎ (eqb (x .offset) at ≡ false) → tailOf (cond (eqb (x .offset) at) (x ∷ []) []) ≡ []
-    go (inl q) = rw q
-    go (inr q) = rw q
-at-end n b (x ∷ (y ∷ r)) at s e g = go (at-end n b (y ∷ r) at (s .3)) (decide (eqb (x .offset) at))
-  where
-    go : (isPlace (y ∷ r) at ≡ true → isEnd (headOf (from (y ∷ r) at) .command) ≡ true → tailOf (from (y ∷ r) at) ≡ [])
-        → (eqb (x .offset) at ≡ true) ⊎ (eqb (x .offset) at ≡ false) → tailOf (cond (eqb (x .offset) at) (x ∷ (y ∷ r)) (from (y ∷ r) at)) ≡ []
-    go ih (inl q) = absurd (true-false _ (rw q at g) (s .1))
-    go ih (inr q) = rw q (ih (rw q at e) (rw q at g))
 
 -- FRAMES
 

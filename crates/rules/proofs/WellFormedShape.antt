@@ -2,13 +2,13 @@
 -- Facts about steps go by these few cases and not by the commands.
 use Prim.Native.Nat.{ℕ, zero, suc, _+_, _-_, _≤_, _<_}
 use native.Mathlib.Omega.{arith}
-use mathlib.Core.List.{List, [], _∷_, map}
-use mathlib.Core.Bool.{Bool, true, false, cond, _||_, _&&_, not}
-use mathlib.Core.Path.{_≡_, refl, sym, ap, _∙_, subst}
+use mathlib.Core.List.{List, map}
+use mathlib.Core.Bool.{Bool, true, false, cond, _&&_, not}
+use mathlib.Core.Path.{_≡_, refl}
 use mathlib.Core.Logic.{_⊎_, inl, inr}
-use lib.ListN.{length, getD, set, replicate}
-use lib.Dec.{ltb, leb, eqb}
-use borrow.Author.Tests.{ltb-true, ltb-false, leb-true, leb-false, eqb-true, eqb-false}
+use lib.ListN.{set}
+use lib.Dec.{ltb, leb}
+use borrow.Author.Tests.{ltb-true, leb-false, eqb-false}
 use Rattle.program.specs.declared.command.Command.{Command}
 use Rattle.program.specs.declared.command.Command.the-variants.{End, Next, Clock, Resume, Drop, Async, Finish, Repeat, Acc, Offer, Read, Reset, Put, Fetch, Store, Add, Atom}
 use Rattle.program.specs.Command.{rows, rowAt, rowOf, opcode, operandsOf, isEnd}
@@ -16,18 +16,16 @@ use Rattle.program.specs.Bodies.{Program}
 use Rattle.program.proofs.Shape.{Ranged}
 use Rattle.rules.specs.declared.state.Status.{Status}
 use Rattle.rules.specs.declared.state.Status.the-variants.{Running, AtBarrier, Ended, Faulted}
-use Rattle.rules.specs.declared.state.Registration.the-variants.{Free, Live, Quiesced}
+use Rattle.rules.specs.declared.state.Registration.the-variants.{Live}
 use Rattle.rules.specs.declared.state.Frame.{Frame}
-use Rattle.rules.specs.declared.state.Hold.{Hold}
 use Rattle.rules.specs.declared.state.Activity.{Activity}
 use Rattle.rules.specs.declared.state.State.{State}
-use Rattle.rules.specs.Search.{someBelow}
 use Rattle.rules.specs.State.{operatorOf, noFrame, noHold, noFrames, noHolds, top, hold, accumulator, bound, isEnded, isAtBarrier}
 use Rattle.rules.specs.Clocks.{isLive, holds, quiesce, pass}
 use Rattle.rules.specs.Tree.{isFinish, inOwnFinish}
 use Rattle.rules.specs.Faults.{bit, lendsUnheld, lendsQuiesced, asyncFault, unbound, numberUnder, readFault, faultFor}
-use Rattle.rules.specs.Effects.{withFrames, withRegister, stopped, past, pushed, again, popped, endOf, nextOf, repeatOf, child, newAccumulator, touch, touchAll, untouched, Spawned, nobody, one, Write, keep, make, offer, reset, Effect, alone, effectOf, failing, envOf}
-use Rattle.rules.proofs.Tests.{and-true, and-intro, and-not, and-false, not-false, cond-zero, true-false, decide}
+use Rattle.rules.specs.Effects.{withRegister, stopped, past, pushed, again, popped, endOf, nextOf, repeatOf, child, newAccumulator, touch, touchAll, untouched, Spawned, nobody, one, Write, keep, make, offer, reset, Effect, alone, effectOf, failing, envOf}
+use Rattle.rules.proofs.Tests.{and-true, and-not, and-false, cond-zero, true-false, decide}
 use Rattle.rules.proofs.Search.{someBelow-none}
 use Rattle.rules.proofs.WellFormedPlaces.{moved}
 use Rattle.rules.proofs.WellFormedStack.{Ran, byFinish, byRepeat, level}

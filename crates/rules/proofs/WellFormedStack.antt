@@ -1,11 +1,10 @@
 -- The stack of a well-formed activity as facts: each frame stands on a command, each body is run by the command below it, bodies rise. One law gives
 -- the stack after a frame was put at, under or on the top: past a command, a body begun, run again or left.
-use Prim.Native.Nat.{ℕ, zero, suc, _+_, _-_, _≤_, _<_}
+use Prim.Native.Nat.{ℕ, zero, suc, _-_, _≤_, _<_}
 use native.Mathlib.Omega.{arith}
-use native.Mathlib.Nat.{not-suc-le-zero}
-use native.Mathlib.Decide.{ℕ-discrete, decLt}
-use mathlib.Core.List.{List, [], _∷_}
-use mathlib.Core.Bool.{Bool, true, false, cond, _||_, _&&_, not}
+use native.Mathlib.Decide.{ℕ-discrete}
+use mathlib.Core.List.{List}
+use mathlib.Core.Bool.{true, false, cond}
 use mathlib.Core.Path.{_≡_, refl, sym, ap, _∙_, subst}
 use mathlib.Core.Logic.{_⊎_, inl, inr}
 use lib.ListN.{length, getD}
@@ -13,18 +12,17 @@ use lib.Dec.{ltb, leb, eqb}
 use borrow.Author.Tests.{ltb-true, ltb-false, lt-ltb, le-ltb, leb-true, le-leb, eqb-true, eq-eqb}
 use Rattle.program.specs.declared.command.Command.{Command}
 use Rattle.program.specs.declared.command.Command.the-variants.{End, Next, Clock, Resume, Drop, Async, Finish, Repeat, Acc, Offer, Read, Reset, Put, Fetch, Store, Add, Atom}
-use Rattle.program.specs.Command.{isBody, has, operandWhere, rows, rowAt, rowOf, opcode, operandsOf, names, named, isEnd}
-use Rattle.program.specs.Bodies.{Located, Body, Program}
-use Rattle.program.proofs.Shape.{Sound, Accepted}
+use Rattle.program.specs.Command.{rows, rowAt, rowOf, opcode, operandsOf, names, named, isEnd}
+use Rattle.program.specs.Bodies.{Program}
+use Rattle.program.proofs.Shape.{Accepted}
 use Rattle.rules.specs.declared.state.Frame.{Frame}
 use Rattle.rules.specs.declared.state.Activity.{Activity}
 use Rattle.rules.specs.Search.{allBelow}
-use Rattle.rules.specs.State.{noFrame, frame, top}
+use Rattle.rules.specs.State.{noFrame, frame}
 use Rattle.rules.specs.Tree.{here, isFinish}
 use Rattle.rules.specs.WellFormed.{isNoFrame, runBy, isPlaced, isBottom, isStacked, frameFits, stackFits}
 use Rattle.rules.proofs.Tests.{and-true, and-intro, true-false, decide}
 use Rattle.rules.proofs.Search.{allBelow-at, allBelow-intro}
-use Rattle.rules.proofs.WellFormedPlaces.{moved, placed-body, placed-sound}
 
 -- WHAT RUNS A BODY
 

@@ -1,21 +1,19 @@
 -- The start state is well-formed and sized.
-use Prim.Native.Nat.{ℕ, zero, suc, _+_, _-_, _≤_, _<_}
+use Prim.Native.Nat.{ℕ, zero, suc, _<_}
 use native.Mathlib.Omega.{arith}
 use native.Mathlib.Nat.{not-suc-le-zero}
-use mathlib.Core.List.{List, [], _∷_}
-use mathlib.Core.Bool.{Bool, true, false}
-use mathlib.Core.Path.{_≡_, refl, sym, ap, _∙_, subst}
-use lib.ListN.{length, getD, set, replicate, length-set, length-replicate, getD-replicate}
+use mathlib.Core.Bool.{true, false}
+use mathlib.Core.Path.{_≡_, refl, _∙_}
+use lib.ListN.{length-set, length-replicate, getD-replicate}
 use lib.Seq.{getD-set-same, getD-set-other}
 use Rattle.program.specs.Bodies.{Program}
 use Rattle.program.proofs.Shape.{Accepted}
 use Rattle.rules.specs.declared.state.Activity.{Activity}
-use Rattle.rules.specs.declared.state.State.{State}
 use Rattle.rules.specs.Search.{allBelow}
-use Rattle.rules.specs.State.{noFrame, noHold, noFrames, noHolds, noActivity, noAccumulator, zeroState, absent, act}
+use Rattle.rules.specs.State.{noFrame, noHold, noFrames, noActivity, noAccumulator, zeroState, absent, act}
 use Rattle.rules.specs.Effects.{withFrames}
 use Rattle.rules.specs.WellFormed.{isNoActivity, isBottom, wellFormed}
-use Rattle.rules.specs.Steps.{Limits, startState}
+use Rattle.rules.specs.Steps.{startState}
 use Rattle.rules.proofs.Tests.{true-false}
 use Rattle.rules.proofs.Sized.{SizedActivity, Sized}
 use Rattle.rules.proofs.WellFormedPlaces.{placed-begun}

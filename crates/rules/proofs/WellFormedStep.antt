@@ -1,43 +1,37 @@
 -- A step of a well-formed state gives a well-formed state, and arrays keep their sizes; the start state is well-formed. Each state is meant, reached or not.
-use Prim.Native.Nat.{ℕ, zero, suc, _+_, _-_, _≤_, _<_}
+use Prim.Native.Nat.{ℕ, suc, _+_, _-_, _≤_, _<_}
 use native.Mathlib.Omega.{arith}
 use native.Mathlib.Nat.{not-suc-le-zero}
 use native.Mathlib.Decide.{ℕ-discrete, decLt}
-use mathlib.Core.List.{List, [], _∷_, map}
-use mathlib.Core.Bool.{Bool, true, false, cond, _||_, _&&_, not}
+use mathlib.Core.List.{List, [], _∷_}
+use mathlib.Core.Bool.{Bool, true, false}
 use mathlib.Core.Path.{_≡_, refl, sym, ap, _∙_, subst}
-use mathlib.Core.Logic.{_⊎_, inl, inr}
-use lib.ListN.{length, getD, set, replicate, length-set, length-map, length-replicate, getD-replicate}
+use lib.ListN.{length, getD, set, length-set, length-map, length-replicate, getD-replicate}
 use lib.Seq.{getD-set-same, getD-set-other}
-use lib.Dec.{ltb, leb, eqb}
-use borrow.Author.Tests.{ltb-true, eqb-true}
 use Rattle.program.specs.declared.command.Command.{Command}
 use Rattle.program.specs.declared.command.Command.the-variants.{Async}
 use Rattle.program.specs.Command.{rows, rowAt, rowOf, opcode, operandsOf, names, named, isEnd}
-use Rattle.program.specs.Bodies.{Located, Program}
-use Rattle.program.specs.Count.{workOf}
+use Rattle.program.specs.Bodies.{Program}
 use Rattle.program.proofs.Shape.{Accepted, Sound}
 use Rattle.rules.specs.declared.state.Status.{Status}
 use Rattle.rules.specs.declared.state.Status.the-variants.{Running, AtBarrier, Ended, Faulted}
-use Rattle.rules.specs.declared.state.Registration.the-variants.{Live}
 use Rattle.rules.specs.declared.state.Frame.{Frame}
 use Rattle.rules.specs.declared.state.Hold.{Hold}
 use Rattle.rules.specs.declared.state.Activity.{Activity}
 use Rattle.rules.specs.declared.state.Accumulator.{Accumulator}
 use Rattle.rules.specs.declared.state.State.{State}
-use Rattle.rules.specs.State.{operatorOf, noFrame, noHold, noFrames, noHolds, noActivity, noAccumulator, zeroState, absent, act, top, hold, accumulator, bound, isEnded, isAtBarrier, ended}
+use Rattle.rules.specs.State.{operatorOf, noFrame, noHold, noFrames, noAccumulator, act, top, hold, accumulator, bound, isEnded, isAtBarrier}
 use Rattle.rules.specs.Clocks.{isHeld, holds, quiesce, pass}
 use Rattle.rules.specs.Tree.{here}
 use Rattle.rules.specs.Effects.{Spawned, nobody, one, Write, keep, make, offer, reset, Effect, lent, child, newAccumulator, clockedCount, writtenCount, withSpawned, withWritten, withStores, applied}
 use Rattle.rules.specs.WellFormed.{isNoFrame, isNoActivity, isNoAccumulator, isPlaced, isBottom, wellFormed}
-use Rattle.rules.specs.Steps.{Limits, at, effect, refusal, spawns, makes, exceeds, startState}
-use Rattle.rules.proofs.Tests.{and-true, and-intro, true-false, decide}
-use Rattle.rules.proofs.Search.{allBelow-intro}
+use Rattle.rules.specs.Steps.{Limits, at, effect, refusal, makes, exceeds}
+use Rattle.rules.proofs.Tests.{true-false}
 use Rattle.rules.proofs.Lists.{Stored, new, old, stored}
 use Rattle.rules.proofs.Sized.{SizedActivity, Sized}
 use Rattle.rules.proofs.WellFormedPlaces.{moved, placed-body, placed-next, placed-begun}
-use Rattle.rules.proofs.WellFormedStack.{Ran, ran-going, ran-names, level, Stacked, Stack, On, stack-put, stack-room, stack-more, on-moved, on-again}
-use Rattle.rules.proofs.WellFormedHolds.{Held, named-none, held-none, held-map, held-set, held-new, held-lent, held-more, Fits, fits-none, fits-like, quiesced-held, revived-held, named-map}
+use Rattle.rules.proofs.WellFormedStack.{ran-going, ran-names, level, Stacked, Stack, On, stack-put, stack-room, stack-more, on-moved, on-again}
+use Rattle.rules.proofs.WellFormedHolds.{Held, named-none, held-none, held-map, held-set, held-new, held-lent, held-more, fits-none, fits-like, quiesced-held, revived-held, named-map}
 use Rattle.rules.proofs.WellFormedFacts.{ActivityFacts, Facts, facts, formed, facts-more}
 use Rattle.rules.proofs.WellFormedShape.{Motion, stays, goes, begins, repeats, returns, halts, Holding, same, quiesces, passes, clocks, resumes, drops, leaves, Naming, keeps, adds, offers, resets, Offspring, childless, bears, Shape}
 use Rattle.rules.proofs.WellFormedApply.{Turn, turn, Room, room, at-sound, step-shape, Now, self, newborn, other, now, acts-after, clocks-after, accs-after, owner-old}

@@ -1,8 +1,8 @@
--- Who is inside a finish, as the run itself tells it: "It is inside a finish if it was spawned by the owner during that body, or by an activity inside." No number
--- of a state is looked at but who the owner is and which of its bodies stand open.
+-- Who is inside a finish, as the run itself tells it: "It is inside a finish if it was spawned by the owner during that body, or by an activity inside." Of a
+-- state it takes only who steps, whom the step spawns and which bodies stand open then.
 use Prim.Native.Nat.{ℕ, _-_}
 use mathlib.Core.List.{List, [], _∷_}
-use mathlib.Core.Bool.{Bool, true, false, cond, _||_, _&&_}
+use mathlib.Core.Bool.{Bool, false, cond, _||_, _&&_}
 use lib.Dec.{ltb, eqb}
 use Rattle.program.specs.Bodies.{Program, programOf}
 use Rattle.rules.specs.declared.state.Activity.{Activity}
