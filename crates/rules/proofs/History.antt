@@ -19,7 +19,7 @@ use Rattle.rules.specs.declared.state.State.{State}
 use Rattle.rules.specs.Search.{chain}
 use Rattle.rules.specs.State.{act, frame, top, ended}
 use Rattle.rules.specs.Tree.{here, isFinish, finishes, spawnerOf, inside}
-use Rattle.rules.specs.Effects.{one, child, applied}
+use Rattle.rules.specs.Effects.{one, child}
 use Rattle.rules.specs.Steps.{Limits, at, effect, spawns, startState, startWith, start, step}
 use Rattle.rules.specs.Runs.{isAccepted, runFrom, run}
 use Rattle.rules.specs.History.{Insides, noInsides, isFinishBody, beginsFinish, spawnsNow, insidesAfter, insidesFrom, insides}
@@ -28,7 +28,7 @@ use Rattle.rules.proofs.Search.{chain-step}
 use Rattle.rules.proofs.Sized.{Sized}
 use Rattle.rules.proofs.WellFormedFacts.{Facts, facts}
 use Rattle.rules.proofs.WellFormedShape.{Offspring, childless, bears, Shape}
-use Rattle.rules.proofs.WellFormedApply.{Turn, turn, Room, room, step-shape, Now, self, newborn, other}
+use Rattle.rules.proofs.WellFormedApply.{after, Turn, turn, Room, room, step-shape, Now, self, newborn, other}
 use Rattle.rules.proofs.WellFormedStep.{step-facts, step-sized}
 use Rattle.rules.proofs.WellFormedStart.{start-main, start-facts, start-sized}
 use Rattle.rules.proofs.PersistTree.{entry, chain-old, spawner-new, grown}
@@ -70,13 +70,13 @@ pub record Told (p : Program) (s : State) (h : Insides) : Type 0 where
 module _ (l : Limits) {p : Program} (ok : Accepted p) {s : State} (f : Facts (l .phase) p s) (z : Sized s) (i : ℕ) (t : Turn p s i) (r : Room l p s (effect p s i)) where
   -- a body that is open after the step
   data Stood (w d : ℕ) : Type 0 where
-    now-begun : w ≡ i → isFinish (here p (top (act s i)) .command) ≡ true → d ≡ act s i .depth → frame (act (applied s i (effect p s i)) w) d .first ≡ s .activities → Stood w d
-    still-open : w < s .activities → ended s w ≡ false → Open p (act s w) d → frame (act (applied s i (effect p s i)) w) d .first ≡ frame (act s w) d .first → Stood w d
+    now-begun : w ≡ i → isFinish (here p (top (act s i)) .command) ≡ true → d ≡ act s i .depth → frame (act (after p s i) w) d .first ≡ s .activities → Stood w d
+    still-open : w < s .activities → ended s w ≡ false → Open p (act s w) d → frame (act (after p s i) w) d .first ≡ frame (act s w) d .first → Stood w d
 
   shape-of : Shape p s i (act s i) (here p (top (act s i)) .command) (effect p s i)
   shape-of = step-shape ok f i (t .spawned) (t .unended)
 
-  facts-after : Facts (l .phase) p (applied s i (effect p s i))
+  facts-after : Facts (l .phase) p (after p s i)
   facts-after = step-facts l ok f z i t r
 
   child-depth : (c : Activity) → effect p s i .spawned ≡ one c → c .depth ≡ 1
@@ -87,10 +87,10 @@ module _ (l : Limits) {p : Program} (ok : Accepted p) {s : State} (f : Facts (l 
       go (childless n) = let y : _≡_ {A = ℕ} 0 1 = cc in absurd (omega arith)
       go (bears b m o n h) = let g : c ≡ child i (act s i) b m = cc in rw g
 
-  stood : (w d : ℕ) → w < applied s i (effect p s i) .activities → ended (applied s i (effect p s i)) w ≡ false → Open p (act (applied s i (effect p s i)) w) d → Stood w d
+  stood : (w d : ℕ) → w < after p s i .activities → ended (after p s i) w ≡ false → Open p (act (after p s i) w) d → Stood w d
   stood w d h u x = go (entry l ok f z i t r w)
     where
-      from-self : w ≡ i → act (applied s i (effect p s i)) w ≡ effect p s i .self → Opened p (s .activities) (here p (top (act s i)) .command) (act s i) (effect p s i .self) d → Stood w d
+      from-self : w ≡ i → act (after p s i) w ≡ effect p s i .self → Opened p (s .activities) (here p (top (act s i)) .command) (act s i) (effect p s i .self) d → Stood w d
       from-self e q (begun a b c) = now-begun e a b (ap (λ g. frame g d .first) q ∙ c)
       from-self e q (before a b) =
           still-open (rw e (t .spawned)) (rw e (t .unended)) (subst (λ w. Open p (act s w) d) (sym e) a) (ap (λ g. frame g d .first) q ∙ b ∙ ap (λ w. frame (act s w) d .first) (sym e))
@@ -104,12 +104,12 @@ module _ (l : Limits) {p : Program} (ok : Accepted p) {s : State} (f : Facts (l 
       go (other e n q) = still-open (n h) (rw q at u) (subst (λ g. Open p g d) q x) (ap (λ g. frame g d .first) q)
 
   module _ {h : Insides} (y : Told p s h) where
-    later-after : (w d : ℕ) → Stood w d → w < frame (act (applied s i (effect p s i)) w) d .first
+    later-after : (w d : ℕ) → Stood w d → w < frame (act (after p s i) w) d .first
     later-after w d (now-begun e o n q) = rw q (omega (arith, t .spawned))
     later-after w d (still-open a b c q) = rw q (y .later w d a b c)
 
     -- a FINISH spawns nobody
-    none-new : isFinish (here p (top (act s i)) .command) ≡ true → (x : ℕ) → x < applied s i (effect p s i) .activities → x < s .activities
+    none-new : isFinish (here p (top (act s i)) .command) ≡ true → (x : ℕ) → x < after p s i .activities → x < s .activities
     unfolding opcode
     none-new o x m = go (entry l ok f z i t r x)
       where
@@ -124,16 +124,16 @@ module _ (l : Limits) {p : Program} (ok : Accepted p) {s : State} (f : Facts (l 
 
     -- who was there
     told-old : (w d x : ℕ) → w < s .activities → ended s w ≡ false → Open p (act s w) d → x < s .activities
-        → cond (spawnsNow p s i x) ((eqb w i && isFinishBody p (act s w) d) || h w d i) (h w d x) ≡ inside (applied s i (effect p s i)) w (frame (act s w) d .first) x
+        → cond (spawnsNow p s i x) ((eqb w i && isFinishBody p (act s w) d) || h w d i) (h w d x) ≡ inside (after p s i) w (frame (act s w) d .first) x
     unfolding spawnsNow inside
     told-old w d x a u o m =
         rw (ne-eqb x (s .activities) (λ q. omega arith), and-false-right (spawns (effect p s i .spawned)))
         (y .told w d x a u o m ∙ unfold inside in sym (chain-old l ok f z i t r (leb (frame (act s w) d .first)) w x m))
 
     -- who is spawned now
-    told-new : (w d : ℕ) → w < s .activities → ended s w ≡ false → Open p (act s w) d → (c : Activity) → effect p s i .spawned ≡ one c → act (applied s i (effect p s i)) (s .activities) ≡ c
+    told-new : (w d : ℕ) → w < s .activities → ended s w ≡ false → Open p (act s w) d → (c : Activity) → effect p s i .spawned ≡ one c → act (after p s i) (s .activities) ≡ c
         → cond (spawnsNow p s i (s .activities)) ((eqb w i && isFinishBody p (act s w) d) || h w d i) (h w d (s .activities))
-        ≡ inside (applied s i (effect p s i)) w (frame (act s w) d .first) (s .activities)
+        ≡ inside (after p s i) w (frame (act s w) d .first) (s .activities)
     unfolding spawnsNow inside
     told-new w d a u o c q n =
         rw (
@@ -152,24 +152,24 @@ module _ (l : Limits) {p : Program} (ok : Accepted p) {s : State} (f : Facts (l 
         first : ℕ
         first = frame (act s w) d .first
 
-        to : spawnerOf (applied s i (effect p s i)) (s .activities) ≡ i
+        to : spawnerOf (after p s i) (s .activities) ≡ i
         to = ap (λ a. a .spawner) n ∙ spawner-new l ok f z i t r c q
 
-        step-there : chain (spawnerOf (applied s i (effect p s i))) (leb first) w 64 (s .activities)
+        step-there : chain (spawnerOf (after p s i)) (leb first) w 64 (s .activities)
             ≡ ltb w (s .activities)
-            && ((eqb (spawnerOf (applied s i (effect p s i)) (s .activities)) w && leb first (s .activities))
-            || chain (spawnerOf (applied s i (effect p s i))) (leb first) w 64 (spawnerOf (applied s i (effect p s i)) (s .activities)))
+            && ((eqb (spawnerOf (after p s i) (s .activities)) w && leb first (s .activities))
+            || chain (spawnerOf (after p s i)) (leb first) w 64 (spawnerOf (after p s i) (s .activities)))
         step-there =
-            chain-step (spawnerOf (applied s i (effect p s i))) (applied s i (effect p s i) .activities) (λ y a b. facts-after .spawned y b .lower a) (leb first) w 64 (s .activities)
+            chain-step (spawnerOf (after p s i)) (after p s i .activities) (λ y a b. facts-after .spawned y b .lower a) (leb first) w 64 (s .activities)
             (grown l ok f z i t r c q) (r .acts (ap spawns q))
 
-    told-after : (w d x : ℕ) → Stood w d → x < applied s i (effect p s i) .activities
-        → insidesAfter p s i h w d x ≡ inside (applied s i (effect p s i)) w (frame (act (applied s i (effect p s i)) w) d .first) x
+    told-after : (w d x : ℕ) → Stood w d → x < after p s i .activities
+        → insidesAfter p s i h w d x ≡ inside (after p s i) w (frame (act (after p s i) w) d .first) x
     unfolding insidesAfter beginsFinish at
     told-after w d x (now-begun e o n q) m =
         rw (eq-eqb w i e, o, eq-eqb d (act s i .depth) n, q)
         (unfold inside in
-        sym (chain-late (spawnerOf (applied s i (effect p s i))) (applied s i (effect p s i) .activities) (λ y a b. facts-after .spawned y b .lower a) (s .activities) w 64 x m (none-new o x m)))
+        sym (chain-late (spawnerOf (after p s i)) (after p s i .activities) (λ y a b. facts-after .spawned y b .lower a) (s .activities) w 64 x m (none-new o x m)))
     told-after w d x (still-open a u o q) m = rw (q, no-begin (ℕ-discrete w i)) (go (entry l ok f z i t r x))
       where
         no-begin : Dec (w ≡ i) → eqb w i && (isFinish (here p (top (act s i)) .command) && eqb d (act s i .depth)) ≡ false
@@ -179,12 +179,12 @@ module _ (l : Limits) {p : Program} (ok : Accepted p) {s : State} (f : Facts (l 
         no-begin (no e) = rw (ne-eqb w i e)
 
         go : Now s i (effect p s i) x
-            → cond (spawnsNow p s i x) ((eqb w i && isFinishBody p (act s w) d) || h w d i) (h w d x) ≡ inside (applied s i (effect p s i)) w (frame (act s w) d .first) x
+            → cond (spawnsNow p s i x) ((eqb w i && isFinishBody p (act s w) d) || h w d i) (h w d x) ≡ inside (after p s i) w (frame (act s w) d .first) x
         go (self e b) = told-old w d x a u o (rw e (t .spawned))
-        go (newborn c e n b) = rw n (told-new w d a u o c e (subst (λ x. act (applied s i (effect p s i)) x ≡ c) n b))
+        go (newborn c e n b) = rw n (told-new w d a u o c e (subst (λ x. act (after p s i) x ≡ c) n b))
         go (other e n b) = told-old w d x a u o (n m)
 
-    pub step-told : Told p (applied s i (effect p s i)) (insidesAfter p s i h)
+    pub step-told : Told p (after p s i) (insidesAfter p s i h)
     step-told =
         record { later = λ w d a u o. later-after w d (stood w d a u o); told = λ w d x a u o m. told-after w d x (stood w d a u o) m }
 
@@ -225,7 +225,7 @@ module _ (l : Limits) (t : List ℕ) (ok : Accepted (programOf t)) where
           let u = turn p s i r in
           let m = room l p s (effect p s i) e in
           rw d
-          (ih (applied s i (effect p s i)) (insidesAfter p s i h)
+          (ih (after p s i) (insidesAfter p s i h)
           (record {
             facts = step-facts l ok (x .facts) (x .sized) i u m;
             sized = step-sized l ok s (x .sized) i w r e;

@@ -28,7 +28,7 @@ use Rattle.rules.proofs.Search.{Witness, someBelow-witness, someBelow-i
 use Rattle.rules.proofs.Sized.{Sized}
 use Rattle.rules.proofs.WellFormedFacts.{ActivityFacts, Facts, facts}
 use Rattle.rules.proofs.WellFormedShape.{Offspring, childless, bears, Shape}
-use Rattle.rules.proofs.WellFormedApply.{Turn, turn, turn-back, Room, room, at-sound, step-shape, Now, self, newborn, other, act-old, acts-after, owner-old}
+use Rattle.rules.proofs.WellFormedApply.{after, Turn, turn, turn-back, Room, room, at-sound, step-shape, Now, self, newborn, other, act-old, acts-after, owner-old}
 use Rattle.rules.proofs.PersistBehind.{self-before, child-before}
 use Rattle.rules.proofs.PersistTree.{entry, chain-old, chain-child}
 
@@ -103,29 +103,29 @@ module _ (l : Limits) {p : Program} (ok : Accepted p) {s : State} (f : Facts (l 
   shape-of = step-shape ok f i (t .spawned) (t .unended)
 
   -- who is at the end of a chain and has not ended, or another such, was there before
-  chain-before : (test : ℕ → Bool) (x : ℕ) → (x ≡ i → ⊥) → (y : ℕ) → y < applied s i (effect p s i) .activities
-      → chain (spawnerOf (applied s i (effect p s i))) test x 64 y && not (ended (applied s i (effect p s i)) y) ≡ true
+  chain-before : (test : ℕ → Bool) (x : ℕ) → (x ≡ i → ⊥) → (y : ℕ) → y < after p s i .activities
+      → chain (spawnerOf (after p s i)) test x 64 y && not (ended (after p s i) y) ≡ true
       → Witness (s .activities) (λ y. chain (spawnerOf s) test x 64 y && not (ended s y))
   chain-before test x d y h e = go (entry l ok f z i t r y)
     where
-      q : (chain (spawnerOf (applied s i (effect p s i))) test x 64 y ≡ true) × (not (ended (applied s i (effect p s i)) y) ≡ true)
-      q = and-true (chain (spawnerOf (applied s i (effect p s i))) test x 64 y) _ e
+      q : (chain (spawnerOf (after p s i)) test x 64 y ≡ true) × (not (ended (after p s i) y) ≡ true)
+      q = and-true (chain (spawnerOf (after p s i)) test x 64 y) _ e
 
       by-self : chain (spawnerOf s) test x 64 i ≡ true → Witness (s .activities) (λ y. chain (spawnerOf s) test x 64 y && not (ended s y))
       by-self u = record { at = i; below = t .spawned; passes = and-intro (chain (spawnerOf s) test x 64 i) _ u (rw (t .unended)) }
 
       go : Now s i (effect p s i) y → Witness (s .activities) (λ y. chain (spawnerOf s) test x 64 y && not (ended s y))
-      go (self w m) = by-self (sym (chain-old l ok f z i t r test x i (t .spawned)) ∙ subst (λ y. chain (spawnerOf (applied s i (effect p s i))) test x 64 y ≡ true) w (q .0))
+      go (self w m) = by-self (sym (chain-old l ok f z i t r test x i (t .spawned)) ∙ subst (λ y. chain (spawnerOf (after p s i)) test x 64 y ≡ true) w (q .0))
       go (newborn c w n m) =
-          by-self (chain-child l ok f z i t r test x d c w (subst (λ y. act (applied s i (effect p s i)) y ≡ c) n m) (subst (λ y. chain (spawnerOf (applied s i (effect p s i))) test x 64 y ≡ true) n (q .0)))
+          by-self (chain-child l ok f z i t r test x d c w (subst (λ y. act (after p s i) y ≡ c) n m) (subst (λ y. chain (spawnerOf (after p s i)) test x 64 y ≡ true) n (q .0)))
       go (other w n m) =
           record { at = y; below = n h; passes = and-intro (chain (spawnerOf s) test x 64 y) _ (sym (chain-old l ok f z i t r test x y (n h)) ∙ q .0) (rw m at (q .1)) }
 
   -- who is behind, or the one who stepped, was behind before
-  behind-before : (c n : ℕ) → c < s .clocks → (y : ℕ) → y < applied s i (effect p s i) .activities → behind (applied s i (effect p s i)) c n y ≡ true → Witness (s .activities) (behind s c n)
+  behind-before : (c n : ℕ) → c < s .clocks → (y : ℕ) → y < after p s i .activities → behind (after p s i) c n y ≡ true → Witness (s .activities) (behind s c n)
   unfolding behind
   behind-before c n m y h b =
-      let w = someBelow-witness 8 (λ k. isBehind c n (hold (act (applied s i (effect p s i)) y) k)) b in
+      let w = someBelow-witness 8 (λ k. isBehind c n (hold (act (after p s i) y) k)) b in
       go (w .at) (w .below) (w .passes) (entry l ok f z i t r y)
     where
       by-self : (k : ℕ) → k < 8 → isBehind c n (hold (act s i) k) ≡ true → Witness (s .activities) (behind s c n)
@@ -139,7 +139,7 @@ module _ (l : Limits) {p : Program} (ok : Accepted p) {s : State} (f : Facts (l 
           let hs : a .holds ≡ lent j 0 (act s i .holds) = rw g (unfold child in refl) in
           child-before c n j (act s i .holds) k (λ t. lend k l t .1) (rw hs at u)
 
-      go : (k : ℕ) → k < 8 → isBehind c n (hold (act (applied s i (effect p s i)) y) k) ≡ true → Now s i (effect p s i) y → Witness (s .activities) (behind s c n)
+      go : (k : ℕ) → k < 8 → isBehind c n (hold (act (after p s i) y) k) ≡ true → Now s i (effect p s i) y → Witness (s .activities) (behind s c n)
       go k l u (self d q) = by-self k l (self-before c n (shape-of .holding) m k (rw q at u))
       go k l u (newborn a d v q) = by-self k l (born k l a d (rw q at u) (shape-of .offspring))
       go k l u (other d v q) = record { at = y; below = v h; passes = someBelow-intro 8 (λ k. isBehind c n (hold (act s y) k)) k l (rw q at u) }
@@ -155,27 +155,27 @@ module _ (l : Limits) {p : Program} (ok : Accepted p) {s : State} (f : Facts (l 
     o : Command
     o = here p (top (act s x)) .command
 
-    record-old : act (applied s i (effect p s i)) x ≡ act s x
+    record-old : act (after p s i) x ≡ act s x
     record-old = act-old s i (effect p s i) x (u .spawned) d
 
-    same-fault : faultFor p (envOf (applied s i (effect p s i))) x (act s x) (here p (top (act s x)) .command) ≡ faultFor p (envOf s) x (act s x) (here p (top (act s x)) .command)
+    same-fault : faultFor p (envOf (after p s i)) x (act s x) (here p (top (act s x)) .command) ≡ faultFor p (envOf s) x (act s x) (here p (top (act s x)) .command)
     same-fault =
-        fault-same p s (applied s i (effect p s i)) x (act s x)
+        fault-same p s (after p s i) x (act s x)
         (λ n h e. owner-old s (effect p s i) (shape-of .naming) (numberUnder (act s x) n) (omega (arith, facts-x .bounds n h, eqb-false (bound (act s x) n) 0 e)))
         (here p (top (act s x)) .command) (at-sound ok f x (u .spawned) (u .unended) .ranged)
 
     no-wait : waitsAt p s x (act s x) (here p (top (act s x)) .command) ≡ false
-        → waitsAt p (applied s i (effect p s i)) x (act s x) (here p (top (act s x)) .command) ≡ false
+        → waitsAt p (after p s i) x (act s x) (here p (top (act s x)) .command) ≡ false
     unfolding waitsAt unendedInside unendedBelow inside descends behindOf
     no-wait h =
-        someBelow-all (applied s i (effect p s i) .activities) (waitsFor p (applied s i (effect p s i)) x (act s x) (here p (top (act s x)) .command))
-        (λ y m e. true-false _ (wait-before p s (applied s i (effect p s i)) x (act s x) y (chain-before (leb (top (act s x) .first)) x d y m) (chain-before (λ y. true) x d y m) (at-barrier y m) (here p (top (act s x)) .command) e) h)
+        someBelow-all (after p s i .activities) (waitsFor p (after p s i) x (act s x) (here p (top (act s x)) .command))
+        (λ y m e. true-false _ (wait-before p s (after p s i) x (act s x) y (chain-before (leb (top (act s x) .first)) x d y m) (chain-before (λ y. true) x d y m) (at-barrier y m) (here p (top (act s x)) .command) e) h)
       where
-        at-barrier : (y : ℕ) → y < applied s i (effect p s i) .activities
-            → someBelow 8 (λ k. holds (act s x) k && behind (applied s i (effect p s i)) (hold (act s x) k .clock) (hold (act s x) k .phase) y) ≡ true
+        at-barrier : (y : ℕ) → y < after p s i .activities
+            → someBelow 8 (λ k. holds (act s x) k && behind (after p s i) (hold (act s x) k .clock) (hold (act s x) k .phase) y) ≡ true
             → Witness (s .activities) (λ y. someBelow 8 (λ k. holds (act s x) k && behind s (hold (act s x) k .clock) (hold (act s x) k .phase) y))
         at-barrier y m e =
-            let w = someBelow-witness 8 (λ k. holds (act s x) k && behind (applied s i (effect p s i)) (hold (act s x) k .clock) (hold (act s x) k .phase) y) e in
+            let w = someBelow-witness 8 (λ k. holds (act s x) k && behind (after p s i) (hold (act s x) k .clock) (hold (act s x) k .phase) y) e in
             let q = and-true (holds (act s x) (w .at)) _ (w .passes) in
             let v = behind-before (hold (act s x) (w .at) .clock) (hold (act s x) (w .at) .phase) (facts-x .held .fits (w .at) (w .below) .known (q .0)) y m (q .1) in
             record {
@@ -186,7 +186,7 @@ module _ (l : Limits) {p : Program} (ok : Accepted p) {s : State} (f : Facts (l 
                   (and-intro (holds (act s x) (w .at)) _ (q .0) (v .passes));
             }
 
-    still-moves : waits p (applied s i (effect p s i)) x ≡ false
+    still-moves : waits p (after p s i) x ≡ false
     unfolding waits fault at
     still-moves = rw (record-old, same-fault) (go (decide (eqb (faultFor p (envOf s) x (act s x) (here p (top (act s x)) .command)) 0)) (u .moves))
       where
@@ -194,11 +194,11 @@ module _ (l : Limits) {p : Program} (ok : Accepted p) {s : State} (f : Facts (l 
         n = faultFor p (envOf s) x (act s x) (here p (top (act s x)) .command)
 
         go : (eqb n 0 ≡ true) ⊎ (eqb n 0 ≡ false) → eqb n 0 && waitsAt p s x (act s x) (here p (top (act s x)) .command) ≡ false
-            → eqb n 0 && waitsAt p (applied s i (effect p s i)) x (act s x) (here p (top (act s x)) .command) ≡ false
+            → eqb n 0 && waitsAt p (after p s i) x (act s x) (here p (top (act s x)) .command) ≡ false
         go (inl e) w = rw (e, no-wait (and-false (eqb n 0) _ w e))
         go (inr e) w = rw e
 
-    pub turn-kept : Turn p (applied s i (effect p s i)) x
+    pub turn-kept : Turn p (after p s i) x
     turn-kept = record { spawned = omega (arith, u .spawned, acts-after s i (effect p s i) .up); unended = rw record-old (u .unended); moves = still-moves }
 
 -- THE THEOREM
@@ -211,5 +211,5 @@ pub persists : (l : Limits) {p : Program} → Accepted p → (s : State) → Siz
     → exceeds l p s (effect p s i) ≡ false → canStep p (applied s i (effect p s i)) x ≡ true
 unfolding canStep
 persists l {p} ok s z w x i a b d e =
-    eq-eqb (refusal p (applied s i (effect p s i)) x) 0
-    (turn-back p (applied s i (effect p s i)) x (turn-kept l ok (facts (l .phase) p s w) z i (can-step p s i b) (room l p s (effect p s i) e) x d (can-step p s x a)))
+    eq-eqb (refusal p (after p s i) x) 0
+    (turn-back p (after p s i) x (turn-kept l ok (facts (l .phase) p s w) z i (can-step p s i b) (room l p s (effect p s i) e) x d (can-step p s x a)))

@@ -100,6 +100,10 @@ module _ {limit : ℕ} {p : Program} {s : State} (ok : Accepted p) (f : Facts li
           (eqb-true n 0 e)
       go false e = fails (Faulted (faultOf n)) refl
 
+-- The state after the step of activity i.
+abbrev pub after : Program → State → ℕ → State
+after p s i = applied s i (effect p s i)
+
 -- THE ACTIVITIES AFTER AN EFFECT
 
 pub data Now (s : State) (i : ℕ) (e : Effect) (x : ℕ) : Type 0 where

@@ -34,7 +34,7 @@ use Rattle.rules.proofs.WellFormedStack.{ran-going, ran-names, level, S
 use Rattle.rules.proofs.WellFormedHolds.{Held, named-none, held-none, held-map, held-set, held-new, held-lent, held-more, fits-none, fits-like, quiesced-held, revived-held, named-map}
 use Rattle.rules.proofs.WellFormedFacts.{ActivityFacts, Facts, facts, formed, facts-more}
 use Rattle.rules.proofs.WellFormedShape.{Motion, stays, goes, begins, repeats, returns, halts, Holding, same, quiesces, passes, clocks, resumes, drops, leaves, Naming, keeps, adds, offers, resets, Offspring, childless, bears, Shape}
-use Rattle.rules.proofs.WellFormedApply.{Turn, turn, Room, room, at-sound, step-shape, Now, self, newborn, other, now, acts-after, clocks-after, accs-after, owner-old}
+use Rattle.rules.proofs.WellFormedApply.{after, Turn, turn, Room, room, at-sound, step-shape, Now, self, newborn, other, now, acts-after, clocks-after, accs-after, owner-old}
 
 -- STACKS
 
@@ -221,9 +221,6 @@ unfolding names named rowOf rowAt rows opcode operandsOf
 async-names o e = rw e (refl, refl)
 
 module _ (l : Limits) {p : Program} {s : State} (ok : Accepted p) (f : Facts (l .phase) p s) (z : Sized s) (i : ℕ) (t : Turn p s i) where
-  abbrev done : State
-  done = applied s i (effect p s i)
-
   x : ActivityFacts (l .phase) p (s .activities) (s .clocks) (s .accumulators) i (act s i)
   x = f .spawned i (t .spawned)
 
@@ -231,12 +228,12 @@ module _ (l : Limits) {p : Program} {s : State} (ok : Accepted p) (f : Facts (l 
   sh = step-shape ok f i (t .spawned) (t .unended)
 
   module _ (r : Room l p s (effect p s i)) where
-    self-facts : ActivityFacts (l .phase) p (done .activities) (done .clocks) (done .accumulators) i (effect p s i .self)
+    self-facts : ActivityFacts (l .phase) p (after p s i .activities) (after p s i .clocks) (after p s i .accumulators) i (effect p s i .self)
     unfolding applied
     self-facts =
         record {
           stack =
-              stack-more (done .activities) (acts-after s i (effect p s i) .up)
+              stack-more (after p s i .activities) (acts-after s i (effect p s i) .up)
               (stack-after ok (act s i) (x .stack) (x .bodied (t .unended)) (z .each i (omega (arith, t .spawned, f .acts64)) .frames16) (sh .motion) (at-sound ok f i (t .spawned) (t .unended)));
           gone = gone-after (sh .motion);
           bodied = bodied-after (sh .motion) (x .bodied (t .unended));
@@ -247,45 +244,45 @@ module _ (l : Limits) {p : Program} {s : State} (ok : Accepted p) (f : Facts (l 
           lower = λ q. rw (sh .spawner) (x .lower q);
         }
 
-    child-facts : (c : Activity) → effect p s i .spawned ≡ one c → ActivityFacts (l .phase) p (done .activities) (done .clocks) (done .accumulators) (s .activities) c
+    child-facts : (c : Activity) → effect p s i .spawned ≡ one c → ActivityFacts (l .phase) p (after p s i .activities) (after p s i .clocks) (after p s i .accumulators) (s .activities) c
     unfolding child
     child-facts c e = go (sh .offspring)
       where
         go : Offspring i (act s i) (here p (top (act s i)) .command) (effect p s i .spawned)
-            → ActivityFacts (l .phase) p (done .activities) (done .clocks) (done .accumulators) (s .activities) c
+            → ActivityFacts (l .phase) p (after p s i .activities) (after p s i .clocks) (after p s i .accumulators) (s .activities) c
         go (childless q) = let y : _≡_ {A = ℕ} 0 1 = cc in absurd (omega arith)
         go (bears b m o q h) =
             let g : c ≡ child i (act s i) b m = cc in
             let n = async-names (here p (top (act s i)) .command) o in
             rw g
             (record {
-              stack = stack-lone ok (done .activities) b (rw (n .1) at (at-sound ok f i (t .spawned) (t .unended) .above (n .0) .1));
+              stack = stack-lone ok (after p s i .activities) b (rw (n .1) at (at-sound ok f i (t .spawned) (t .unended) .above (n .0) .1));
               gone = λ y. absurd (true-false false y refl);
               bodied = λ y. omega arith;
               barrier = λ y. absurd (true-false false y refl);
-              held = held-more (done .clocks) (clocks-after s i (effect p s i) .up) (held-lent m (λ k d y. h k d y .0) (x .held));
+              held = held-more (after p s i .clocks) (clocks-after s i (effect p s i) .up) (held-lent m (λ k d y. h k d y .0) (x .held));
               bounds = λ k d. omega (arith, x .bounds k d, accs-after s i (effect p s i) .up);
               main = λ y. absurd (omega (arith, t .spawned));
               lower = λ y. t .spawned;
             })
 
-    each-facts : (y : ℕ) → y < done .activities → Now s i (effect p s i) y → ActivityFacts (l .phase) p (done .activities) (done .clocks) (done .accumulators) y (act done y)
+    each-facts : (y : ℕ) → y < after p s i .activities → Now s i (effect p s i) y → ActivityFacts (l .phase) p (after p s i .activities) (after p s i .clocks) (after p s i .accumulators) y (act (after p s i) y)
     each-facts y h (self e q) = rw (q, e) self-facts
     each-facts y h (newborn c e n q) = rw (q, n) (child-facts c e)
     each-facts y h (other e n q) =
         rw q
-        (facts-more (done .activities) (done .clocks) (done .accumulators) (acts-after s i (effect p s i) .up) (clocks-after s i (effect p s i) .up) (accs-after s i (effect p s i) .up) (f .spawned y (n h)))
+        (facts-more (after p s i .activities) (after p s i .clocks) (after p s i .accumulators) (acts-after s i (effect p s i) .up) (clocks-after s i (effect p s i) .up) (accs-after s i (effect p s i) .up) (f .spawned y (n h)))
 
-    none-facts : (y : ℕ) → done .activities ≤ y → y < 64 → Now s i (effect p s i) y → isNoActivity (act done y) ≡ true
+    none-facts : (y : ℕ) → after p s i .activities ≤ y → y < 64 → Now s i (effect p s i) y → isNoActivity (act (after p s i) y) ≡ true
     unfolding applied
     none-facts y h m (self e q) = absurd (omega (arith, t .spawned, acts-after s i (effect p s i) .up))
     none-facts y h m (newborn c e n q) = absurd (omega (arith, born e h))
       where
-        born : effect p s i .spawned ≡ one c → done .activities ≤ y → s .activities + 1 ≤ y
+        born : effect p s i .spawned ≡ one c → after p s i .activities ≤ y → s .activities + 1 ≤ y
         born e h = rw e at h
     none-facts y h m (other e n q) = rw q (f .unspawned y (omega (arith, acts-after s i (effect p s i) .up)) m)
 
-    pub step-facts : Facts (l .phase) p done
+    pub step-facts : Facts (l .phase) p (after p s i)
     unfolding applied
     step-facts =
         record {
@@ -303,10 +300,10 @@ module _ (l : Limits) {p : Program} {s : State} (ok : Accepted p) (f : Facts (l 
         at-now y = now s i (effect p s i) (z .acts64) (t .spawned) (f .acts64) (r .acts) y
 
         new-owner : (n : ℕ) → s .accumulators ≤ n
-            → (n < done .accumulators → accumulator done n .owner ≡ i) × (done .accumulators ≤ n → accumulator done n ≡ accumulator s n)
+            → (n < after p s i .accumulators → accumulator (after p s i) n .owner ≡ i) × (after p s i .accumulators ≤ n → accumulator (after p s i) n ≡ accumulator s n)
         new-owner = owned-after s (effect p s i) (z .accs16) (r .accs) (sh .naming)
 
-        owned : (n : ℕ) → n < done .accumulators → Dec (n < s .accumulators) → accumulator done n .owner < done .activities
+        owned : (n : ℕ) → n < after p s i .accumulators → Dec (n < s .accumulators) → accumulator (after p s i) n .owner < after p s i .activities
         owned n h (yes q) = rw (owner-old s (effect p s i) (sh .naming) n q) (omega (arith, f .owned n q, acts-after s i (effect p s i) .up))
         owned n h (no q) = rw (new-owner n (omega arith) .0 h) (omega (arith, t .spawned, acts-after s i (effect p s i) .up))
 
@@ -362,7 +359,7 @@ module _ (l : Limits) {p : Program} (ok : Accepted p) (s : State) (z : Sized s) 
   -- an accepted step, a faulting one too, leads from a well-formed state to a well-formed state
   pub step-wellFormed : wellFormed (l .phase) p (applied s i (effect p s i)) ≡ true
   step-wellFormed =
-      formed (l .phase) p (applied s i (effect p s i)) (step-facts l ok (facts (l .phase) p s w) z i (turn p s i r) (room l p s (effect p s i) x))
+      formed (l .phase) p (after p s i) (step-facts l ok (facts (l .phase) p s w) z i (turn p s i r) (room l p s (effect p s i) x))
 
   -- and keeps the sizes
   pub step-sized : Sized (applied s i (effect p s i))
