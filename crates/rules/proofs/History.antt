@@ -27,9 +27,10 @@ use Rattle.rules.proofs.Tests.{true-false, decide}
 use Rattle.rules.proofs.Search.{chain-step}
 use Rattle.rules.proofs.Sized.{Sized}
 use Rattle.rules.proofs.WellFormedFacts.{Facts, facts}
-use Rattle.rules.proofs.WellFormedShape.{Offspring, childless, bears, Shape}
+use Rattle.rules.proofs.WellFormedShape.{born, Shape}
 use Rattle.rules.proofs.WellFormedApply.{after, Turn, turn, Room, room, step-shape, Now, self, newborn, other}
-use Rattle.rules.proofs.WellFormedStep.{step-facts, step-sized}
+use Rattle.rules.proofs.WellFormedStep.{step-facts}
+use Rattle.rules.proofs.WellFormedSizes.{step-sized}
 use Rattle.rules.proofs.WellFormedStart.{start-main, start-facts, start-sized}
 use Rattle.rules.proofs.PersistTree.{entry, chain-old, spawner-new, grown}
 use Rattle.rules.proofs.HistoryOpen.{Open, open-test, open-first, Opened, begun, before, opened}
@@ -81,11 +82,7 @@ module _ (l : Limits) {p : Program} (ok : Accepted p) {s : State} (f : Facts (l 
 
   child-depth : (c : Activity) → effect p s i .spawned ≡ one c → c .depth ≡ 1
   unfolding child
-  child-depth c q = go (shape-of .offspring)
-    where
-      go : Offspring i (act s i) (here p (top (act s i)) .command) (effect p s i .spawned) → c .depth ≡ 1
-      go (childless n) = let y : _≡_ {A = ℕ} 0 1 = cc in absurd (omega arith)
-      go (bears b m o n h) = let g : c ≡ child i (act s i) b m = cc in rw g
+  child-depth c q = rw (born (shape-of .offspring) q .like)
 
   stood : (w d : ℕ) → w < after p s i .activities → ended (after p s i) w ≡ false → Open p (act (after p s i) w) d → Stood w d
   stood w d h u x = go (entry l ok f z i t r w)
@@ -113,13 +110,9 @@ module _ (l : Limits) {p : Program} (ok : Accepted p) {s : State} (f : Facts (l 
     unfolding opcode
     none-new o x m = go (entry l ok f z i t r x)
       where
-        bear : (c : Activity) → effect p s i .spawned ≡ one c → Offspring i (act s i) (here p (top (act s i)) .command) (effect p s i .spawned) → ⊥
-        bear c q (childless n) = let y : _≡_ {A = ℕ} 0 1 = cc in omega arith
-        bear c q (bears b k e n g) = true-false false (rw e at o) refl
-
         go : Now s i (effect p s i) x → x < s .activities
         go (self e q) = rw e (t .spawned)
-        go (newborn c e n q) = absurd (bear c e (shape-of .offspring))
+        go (newborn c e n q) = absurd (true-false false (rw (born (shape-of .offspring) e .by) at o) refl)
         go (other e n q) = n m
 
     -- who was there

@@ -10,6 +10,7 @@ pub mod WellFormedFacts
 pub mod WellFormedShape
 pub mod WellFormedApply
 pub mod WellFormedStep
+pub mod WellFormedSizes
 pub mod WellFormedStart
 pub mod Bits
 pub mod StepLaws

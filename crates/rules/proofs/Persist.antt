@@ -3,7 +3,7 @@
 use Prim.Native.Nat.{ℕ, _<_}
 use native.Mathlib.Omega.{arith}
 use mathlib.Core.Bool.{Bool, true, false, _&&_, not}
-use mathlib.Core.Path.{_≡_, refl, sym, _∙_, subst}
+use mathlib.Core.Path.{_≡_, refl, sym, ap, _∙_, subst}
 use mathlib.Core.Logic.{_⊎_, inl, inr}
 use lib.Dec.{ltb, leb, eqb}
 use borrow.Author.Tests.{ltb-true, eqb-true, eqb-false, eq-eqb}
@@ -27,7 +27,7 @@ use Rattle.rules.proofs.Tests.{and-true, and-intro, and-false, true-fal
 use Rattle.rules.proofs.Search.{Witness, someBelow-witness, someBelow-intro, someBelow-all}
 use Rattle.rules.proofs.Sized.{Sized}
 use Rattle.rules.proofs.WellFormedFacts.{ActivityFacts, Facts, facts}
-use Rattle.rules.proofs.WellFormedShape.{Offspring, childless, bears, Shape}
+use Rattle.rules.proofs.WellFormedShape.{born, Shape}
 use Rattle.rules.proofs.WellFormedApply.{after, Turn, turn, turn-back, Room, room, at-sound, step-shape, Now, self, newborn, other, act-old, acts-after, owner-old}
 use Rattle.rules.proofs.PersistBehind.{self-before, child-before}
 use Rattle.rules.proofs.PersistTree.{entry, chain-old, chain-child}
@@ -123,7 +123,7 @@ module _ (l : Limits) {p : Program} (ok : Accepted p) {s : State} (f : Facts (l 
 
   -- who is behind, or the one who stepped, was behind before
   behind-before : (c n : ℕ) → c < s .clocks → (y : ℕ) → y < after p s i .activities → behind (after p s i) c n y ≡ true → Witness (s .activities) (behind s c n)
-  unfolding behind
+  unfolding behind child
   behind-before c n m y h b =
       let w = someBelow-witness 8 (λ k. isBehind c n (hold (act (after p s i) y) k)) b in
       go (w .at) (w .below) (w .passes) (entry l ok f z i t r y)
@@ -131,17 +131,15 @@ module _ (l : Limits) {p : Program} (ok : Accepted p) {s : State} (f : Facts (l 
       by-self : (k : ℕ) → k < 8 → isBehind c n (hold (act s i) k) ≡ true → Witness (s .activities) (behind s c n)
       by-self k l u = record { at = i; below = t .spawned; passes = someBelow-intro 8 (λ k. isBehind c n (hold (act s i) k)) k l u }
 
-      born : (k : ℕ) → k < 8 → (a : Activity) → effect p s i .spawned ≡ one a → isBehind c n (hold a k) ≡ true
-          → Offspring i (act s i) (here p (top (act s i)) .command) (effect p s i .spawned) → isBehind c n (hold (act s i) k) ≡ true
-      born k l a q u (childless v) = let y : _≡_ {A = ℕ} 0 1 = cc in absurd (omega arith)
-      born k l a q u (bears b j o v lend) =
-          let g : a ≡ child i (act s i) b j = cc in
-          let hs : a .holds ≡ lent j 0 (act s i .holds) = rw g (unfold child in refl) in
-          child-before c n j (act s i .holds) k (λ t. lend k l t .1) (rw hs at u)
+      by-child : (k : ℕ) → k < 8 → (a : Activity) → effect p s i .spawned ≡ one a → isBehind c n (hold a k) ≡ true → isBehind c n (hold (act s i) k) ≡ true
+      by-child k l a q u =
+          let g = born (shape-of .offspring) q in
+          let hs : a .holds ≡ lent (g .mask) 0 (act s i .holds) = ap (λ c. c .holds) (g .like) in
+          child-before c n (g .mask) (act s i .holds) k (λ t. g .lent k l t .1) (rw hs at u)
 
       go : (k : ℕ) → k < 8 → isBehind c n (hold (act (after p s i) y) k) ≡ true → Now s i (effect p s i) y → Witness (s .activities) (behind s c n)
       go k l u (self d q) = by-self k l (self-before c n (shape-of .holding) m k (rw q at u))
-      go k l u (newborn a d v q) = by-self k l (born k l a d (rw q at u) (shape-of .offspring))
+      go k l u (newborn a d v q) = by-self k l (by-child k l a d (rw q at u))
       go k l u (other d v q) = record { at = y; below = v h; passes = someBelow-intro 8 (λ k. isBehind c n (hold (act s y) k)) k l (rw q at u) }
 
   -- another who can step still can

@@ -16,7 +16,7 @@ use Rattle.rules.specs.Steps.{Limits, effect, spawns}
 use Rattle.rules.proofs.Search.{chain-same, chain-cases}
 use Rattle.rules.proofs.Sized.{Sized}
 use Rattle.rules.proofs.WellFormedFacts.{Facts}
-use Rattle.rules.proofs.WellFormedShape.{Offspring, childless, bears, Shape}
+use Rattle.rules.proofs.WellFormedShape.{born, Shape}
 use Rattle.rules.proofs.WellFormedApply.{after, Turn, Room, step-shape, Now, self, newborn, other, now}
 use Rattle.rules.proofs.WellFormedStep.{step-facts}
 
@@ -45,11 +45,7 @@ module _ (l : Limits) {p : Program} (ok : Accepted p) {s : State} (f : Facts (l 
   -- the child's spawner is the one who stepped
   pub spawner-new : (c : Activity) → effect p s i .spawned ≡ one c → c .spawner ≡ i
   unfolding child
-  spawner-new c q = go (shape-of .offspring)
-    where
-      go : Offspring i (act s i) (here p (top (act s i)) .command) (effect p s i .spawned) → c .spawner ≡ i
-      go (childless n) = let y : _≡_ {A = ℕ} 0 1 = cc in absurd (omega arith)
-      go (bears b m o n h) = let g : c ≡ child i (act s i) b m = cc in rw g
+  spawner-new c q = rw (born (shape-of .offspring) q .like)
 
   pub grown : (c : Activity) → effect p s i .spawned ≡ one c → s .activities < after p s i .activities
   unfolding applied

@@ -72,6 +72,19 @@ pub data Offspring (i : ℕ) (a : Activity) (o : Command) (w : Spawned) : Type 0
   bears : (b m : ℕ) → o ≡ Async b m → w ≡ one (child i a b m) → ((k : ℕ) → k < 8 → bit m k ≡ true → (holds a k ≡ true) × (isLive (hold a k .registration) ≡ true))
       → Offspring i a o w
 
+-- A child, as its spawner's command makes it.
+pub record Born (i : ℕ) (a : Activity) (o : Command) (c : Activity) : Type 0 where
+  pub body : ℕ
+  pub mask : ℕ
+  pub by : o ≡ Async body mask
+  pub like : c ≡ child i a body mask
+  pub lent : (k : ℕ) → k < 8 → bit mask k ≡ true → (holds a k ≡ true) × (isLive (hold a k .registration) ≡ true)
+
+-- who was spawned was spawned so
+pub born : {i : ℕ} {a : Activity} {o : Command} {w : Spawned} {c : Activity} → Offspring i a o w → w ≡ one c → Born i a o c
+born (childless n) e = let z : _≡_ {A = ℕ} 0 1 = cc in absurd (omega arith)
+born (bears b m o n h) e = record { body = b; mask = m; by = o; like = cc; lent = h }
+
 pub record Shape (p : Program) (s : State) (i : ℕ) (a : Activity) (o : Command) (e : Effect) : Type 0 where
   pub motion : Motion p (s .activities) o a (e .self)
   pub holding : Holding (s .clocks) (e .clocked) a (e .self)

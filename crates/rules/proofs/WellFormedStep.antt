@@ -1,12 +1,13 @@
--- A step of a well-formed state gives a well-formed state, and arrays keep their sizes; the start state is well-formed. Each state is meant, reached or not.
-use Prim.Native.Nat.{ℕ, suc, _+_, _-_, _≤_, _<_}
+-- A step of a well-formed state gives a well-formed state, whether it was reached or not. What becomes of the activity that steps goes by the shape of its command; the
+-- child is as its spawner's command makes it; all others stay, and counts only rise.
+use Prim.Native.Nat.{ℕ, _+_, _-_, _≤_, _<_}
 use native.Mathlib.Omega.{arith}
 use native.Mathlib.Nat.{not-suc-le-zero}
 use native.Mathlib.Decide.{ℕ-discrete, decLt}
-use mathlib.Core.List.{List, [], _∷_}
+use mathlib.Core.List.{List}
 use mathlib.Core.Bool.{Bool, true, false}
 use mathlib.Core.Path.{_≡_, refl, sym, ap, _∙_, subst}
-use lib.ListN.{length, getD, set, length-set, length-map, length-replicate, getD-replicate}
+use lib.ListN.{length, getD, set, length-set, length-replicate, getD-replicate}
 use lib.Seq.{getD-set-same, getD-set-other}
 use Rattle.program.specs.declared.command.Command.{Command}
 use Rattle.program.specs.declared.command.Command.the-variants.{Async}
@@ -16,24 +17,23 @@ use Rattle.program.proofs.Shape.{Accepted, Sound}
 use Rattle.rules.specs.declared.state.Status.{Status}
 use Rattle.rules.specs.declared.state.Status.the-variants.{Running, AtBarrier, Ended, Faulted}
 use Rattle.rules.specs.declared.state.Frame.{Frame}
-use Rattle.rules.specs.declared.state.Hold.{Hold}
 use Rattle.rules.specs.declared.state.Activity.{Activity}
 use Rattle.rules.specs.declared.state.Accumulator.{Accumulator}
 use Rattle.rules.specs.declared.state.State.{State}
 use Rattle.rules.specs.State.{operatorOf, noFrame, noHold, noFrames, noAccumulator, act, top, hold, accumulator, bound, isEnded, isAtBarrier}
 use Rattle.rules.specs.Clocks.{isHeld, holds, quiesce, pass}
 use Rattle.rules.specs.Tree.{here}
-use Rattle.rules.specs.Effects.{Spawned, nobody, one, Write, keep, make, offer, reset, Effect, lent, child, newAccumulator, clockedCount, writtenCount, withSpawned, withWritten, withStores, applied}
+use Rattle.rules.specs.Effects.{one, Write, Effect, lent, child, newAccumulator, clockedCount, writtenCount, applied}
 use Rattle.rules.specs.WellFormed.{isNoFrame, isNoActivity, isNoAccumulator, isPlaced, isBottom, wellFormed}
 use Rattle.rules.specs.Steps.{Limits, at, effect, refusal, makes, exceeds}
 use Rattle.rules.proofs.Tests.{true-false}
 use Rattle.rules.proofs.Lists.{Stored, new, old, stored}
-use Rattle.rules.proofs.Sized.{SizedActivity, Sized}
+use Rattle.rules.proofs.Sized.{Sized}
 use Rattle.rules.proofs.WellFormedPlaces.{moved, placed-body, placed-next, placed-begun}
 use Rattle.rules.proofs.WellFormedStack.{ran-going, ran-names, level, Stacked, Stack, On, stack-put, stack-room, stack-more, on-moved, on-again}
 use Rattle.rules.proofs.WellFormedHolds.{Held, named-none, held-none, held-map, held-set, held-new, held-lent, held-more, fits-none, fits-like, quiesced-held, revived-held, named-map}
 use Rattle.rules.proofs.WellFormedFacts.{ActivityFacts, Facts, facts, formed, facts-more}
-use Rattle.rules.proofs.WellFormedShape.{Motion, stays, goes, begins, repeats, returns, halts, Holding, same, quiesces, passes, clocks, resumes, drops, leaves, Naming, keeps, adds, offers, resets, Offspring, childless, bears, Shape}
+use Rattle.rules.proofs.WellFormedShape.{Motion, stays, goes, begins, repeats, returns, halts, Holding, same, quiesces, passes, clocks, resumes, drops, leaves, Naming, keeps, adds, offers, resets, born, Shape}
 use Rattle.rules.proofs.WellFormedApply.{after, Turn, turn, Room, room, at-sound, step-shape, Now, self, newborn, other, now, acts-after, clocks-after, accs-after, owner-old}
 
 -- STACKS
@@ -246,25 +246,20 @@ module _ (l : Limits) {p : Program} {s : State} (ok : Accepted p) (f : Facts (l 
 
     child-facts : (c : Activity) → effect p s i .spawned ≡ one c → ActivityFacts (l .phase) p (after p s i .activities) (after p s i .clocks) (after p s i .accumulators) (s .activities) c
     unfolding child
-    child-facts c e = go (sh .offspring)
-      where
-        go : Offspring i (act s i) (here p (top (act s i)) .command) (effect p s i .spawned)
-            → ActivityFacts (l .phase) p (after p s i .activities) (after p s i .clocks) (after p s i .accumulators) (s .activities) c
-        go (childless q) = let y : _≡_ {A = ℕ} 0 1 = cc in absurd (omega arith)
-        go (bears b m o q h) =
-            let g : c ≡ child i (act s i) b m = cc in
-            let n = async-names (here p (top (act s i)) .command) o in
-            rw g
-            (record {
-              stack = stack-lone ok (after p s i .activities) b (rw (n .1) at (at-sound ok f i (t .spawned) (t .unended) .above (n .0) .1));
-              gone = λ y. absurd (true-false false y refl);
-              bodied = λ y. omega arith;
-              barrier = λ y. absurd (true-false false y refl);
-              held = held-more (after p s i .clocks) (clocks-after s i (effect p s i) .up) (held-lent m (λ k d y. h k d y .0) (x .held));
-              bounds = λ k d. omega (arith, x .bounds k d, accs-after s i (effect p s i) .up);
-              main = λ y. absurd (omega (arith, t .spawned));
-              lower = λ y. t .spawned;
-            })
+    child-facts c e =
+        let g = born (sh .offspring) e in
+        let n = async-names (here p (top (act s i)) .command) (g .by) in
+        rw (g .like)
+        (record {
+          stack = stack-lone ok (after p s i .activities) (g .body) (rw (n .1) at (at-sound ok f i (t .spawned) (t .unended) .above (n .0) .1));
+          gone = λ y. absurd (true-false false y refl);
+          bodied = λ y. omega arith;
+          barrier = λ y. absurd (true-false false y refl);
+          held = held-more (after p s i .clocks) (clocks-after s i (effect p s i) .up) (held-lent (g .mask) (λ k d y. g .lent k d y .0) (x .held));
+          bounds = λ k d. omega (arith, x .bounds k d, accs-after s i (effect p s i) .up);
+          main = λ y. absurd (omega (arith, t .spawned));
+          lower = λ y. t .spawned;
+        })
 
     each-facts : (y : ℕ) → y < after p s i .activities → Now s i (effect p s i) y → ActivityFacts (l .phase) p (after p s i .activities) (after p s i .clocks) (after p s i .accumulators) y (act (after p s i) y)
     each-facts y h (self e q) = rw (q, e) self-facts
@@ -307,96 +302,7 @@ module _ (l : Limits) {p : Program} {s : State} (ok : Accepted p) (f : Facts (l 
         owned n h (yes q) = rw (owner-old s (effect p s i) (sh .naming) n q) (omega (arith, f .owned n q, acts-after s i (effect p s i) .up))
         owned n h (no q) = rw (new-owner n (omega arith) .0 h) (omega (arith, t .spawned, acts-after s i (effect p s i) .up))
 
--- SIZES
-
-stores-length : (cells : List ℕ) (l : List Rattle.rules.specs.Effects.Stored) → length (withStores cells l) ≡ length cells
-unfolding withStores
-stores-length cells [] = refl
-stores-length cells (x ∷ xs) = length-set (withStores cells xs) (x .cell) (x .value) ∙ stores-length cells xs
-
-written-length : (s : State) (w : Write) → length (withWritten s w) ≡ length (s .accs)
-written-length s keep = refl
-written-length s (make c) = length-set (s .accs) (s .accumulators) c
-written-length s (offer x v) = length-set (s .accs) x _
-written-length s (reset x v) = length-set (s .accs) x _
-
-acts-length : (n i : ℕ) (acts : List Activity) (a : Activity) (c : Spawned) → length (withSpawned n (set acts i a) c) ≡ length acts
-acts-length n i acts a nobody = length-set acts i a
-acts-length n i acts a (one c) = length-set (set acts i a) n c ∙ length-set acts i a
-
-lent-length : (m k : ℕ) (hs : List Hold) → length (lent m k hs) ≡ length hs
-unfolding lent
-lent-length m k [] = refl
-lent-length m k (h ∷ hs) = ap suc (lent-length m (suc k) hs)
-
-frames-length : {p : Program} {made : ℕ} {o : Command} {a b : Activity} → Motion p made o a b → length (a .frames) ≡ 16 → length (b .frames) ≡ 16
-frames-length (stays o t d f) e = rw f e
-frames-length (goes o t d f) e = rw f (simp length-set e)
-frames-length (begins g z r q t d f) e = rw f (simp length-set e)
-frames-length (repeats o l r t d f) e = rw f (simp length-set e)
-frames-length (returns o l t d f) e = rw f (simp length-set e)
-frames-length (halts t d f h) e = rw f (length-replicate 16 noFrame)
-
-holds-length : {next : ℕ} {clocked : Bool} {a b : Activity} → Holding next clocked a b → length (a .holds) ≡ 8 → length (b .holds) ≡ 8
-holds-length (same c h) e = rw h e
-holds-length {a = a} (quiesces c h) e = rw h (length-map (a .holds) quiesce ∙ e)
-holds-length {a = a} (passes c h) e = rw h (length-map (a .holds) pass ∙ e)
-holds-length (clocks k c l h) e = rw h (simp length-set e)
-holds-length (resumes k c l h) e = rw h (simp length-set e)
-holds-length (drops k c l h) e = rw h (simp length-set e)
-holds-length (leaves c h) e = rw h (length-replicate 8 noHold)
-
-names-length : {next i : ℕ} {a b : Activity} {w : Write} → Naming next i a b w → length (a .accumulators) ≡ 8 → length (b .accumulators) ≡ 8
-names-length (keeps w h) e = rw h e
-names-length (adds k o w h) e = rw h (simp length-set e)
-names-length (offers y v w m h) e = rw h e
-names-length (resets y v w m h) e = rw h e
-
--- THE THEOREMS
-
-module _ (l : Limits) {p : Program} (ok : Accepted p) (s : State) (z : Sized s) (i : ℕ) (w : wellFormed (l .phase) p s ≡ true) (r : refusal p s i ≡ 0)
-    (x : exceeds l p s (effect p s i) ≡ false) where
-  -- an accepted step, a faulting one too, leads from a well-formed state to a well-formed state
-  pub step-wellFormed : wellFormed (l .phase) p (applied s i (effect p s i)) ≡ true
-  step-wellFormed =
-      formed (l .phase) p (after p s i) (step-facts l ok (facts (l .phase) p s w) z i (turn p s i r) (room l p s (effect p s i) x))
-
-  -- and keeps the sizes
-  pub step-sized : Sized (applied s i (effect p s i))
-  unfolding applied
-  step-sized =
-      record {
-        acts64 = acts-length (s .activities) i (s .acts) (e .self) (e .spawned) ∙ z .acts64;
-        accs16 = written-length s (e .write) ∙ z .accs16;
-        cells16 = stores-length (s .cells) (e .stores) ∙ z .cells16;
-        each = λ y h. go y h (now s i e (z .acts64) (t .spawned) (f .acts64) (room l p s e x .acts) y);
-      }
-    where
-      e : Effect
-      e = effect p s i
-
-      f : Facts (l .phase) p s
-      f = facts (l .phase) p s w
-
-      t : Turn p s i
-      t = turn p s i r
-
-      sh : Shape p s i (act s i) (here p (top (act s i)) .command) e
-      sh = step-shape ok f i (t .spawned) (t .unended)
-
-      own : SizedActivity (act s i)
-      own = z .each i (omega (arith, t .spawned, f .acts64))
-
-      born : (c : Activity) → e .spawned ≡ one c → Offspring i (act s i) (here p (top (act s i)) .command) (e .spawned) → SizedActivity c
-      born c q (childless n) = let y : _≡_ {A = ℕ} 0 1 = cc in absurd (omega arith)
-      born c q (bears b m o n h) =
-          let g : c ≡ child i (act s i) b m = cc in
-          rw g
-          (unfold child in
-          record { frames16 = simp length-set (length-replicate 16 noFrame); holds8 = lent-length m 0 (act s i .holds) ∙ own .holds8; names8 = own .names8 })
-
-      go : (y : ℕ) → y < 64 → Now s i e y → SizedActivity (act (applied s i e) y)
-      go y h (self d q) =
-          rw q (record { frames16 = frames-length (sh .motion) (own .frames16); holds8 = holds-length (sh .holding) (own .holds8); names8 = names-length (sh .naming) (own .names8) })
-      go y h (newborn c d n q) = rw q (born c d (sh .offspring))
-      go y h (other d n q) = rw q (z .each y h)
+-- an accepted step, a faulting one too, leads from a well-formed state to a well-formed state
+pub step-wellFormed : (l : Limits) {p : Program} → Accepted p → (s : State) → Sized s → (i : ℕ) → wellFormed (l .phase) p s ≡ true → refusal p s i ≡ 0
+    → exceeds l p s (effect p s i) ≡ false → wellFormed (l .phase) p (applied s i (effect p s i)) ≡ true
+step-wellFormed l {p} ok s z i w r x = formed (l .phase) p (after p s i) (step-facts l ok (facts (l .phase) p s w) z i (turn p s i r) (room l p s (effect p s i) x))
