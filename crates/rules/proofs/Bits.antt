@@ -12,6 +12,7 @@ use Rattle.rules.specs.Search.{bitsBelow}
 use Rattle.rules.specs.Faults.{bit}
 use Rattle.rules.proofs.Tests.{decide}
 
+-- the number is below the power of the bound
 pub bits-below : (n : ℕ) (f : ℕ → Bool) → bitsBelow n f < 2 ^ n
 unfolding bitsBelow
 bits-below zero f = pow-pos 0
@@ -57,6 +58,7 @@ bit-at (suc n) f i h = go (bit-at n f i) (ℕ-discrete i n) (decide (f n))
 pub bit-past : (n : ℕ) (f : ℕ → Bool) (i : ℕ) → n ≤ i → bit (bitsBelow n f) i ≡ false
 bit-past n f i h = bit-high (bitsBelow n f) i (omega (arith, bits-below n f, pow-mono h))
 
+-- 0 has no bit
 pub bit-none : (i : ℕ) → bit 0 i ≡ false
 bit-none i = bit-high 0 i (pow-pos i)
 
@@ -66,5 +68,6 @@ unfolding bitsBelow
 bits-zero zero f h = refl
 bits-zero (suc n) f h = rw (h n (omega arith), bits-zero n f (λ i l. h i (omega arith)))
 
+-- and back
 pub zero-bits : (n : ℕ) (f : ℕ → Bool) → bitsBelow n f ≡ 0 → (i : ℕ) → i < n → f i ≡ false
 zero-bits n f e i h = sym (bit-at n f i h) ∙ rw e (bit-none i)

@@ -36,10 +36,12 @@ use Rattle.rules.proofs.PersistTree.{entry, chain-old, spawner-new, gro
 use Rattle.rules.proofs.HistoryOpen.{Open, open-test, open-first, Opened, begun, before, opened}
 use Rattle.rules.proofs.StepLaws.{Outcome, unfits, refuses, overflows, takes, outcome}
 
+-- a test that fails, on the right
 and-false-right : (a : Bool) → a && false ≡ false
 and-false-right true = refl
 and-false-right false = refl
 
+-- equal either way round
 eqb-sym : (a b : ℕ) → eqb a b ≡ eqb b a
 eqb-sym a b = go (ℕ-discrete a b)
   where
@@ -74,16 +76,20 @@ module _ (l : Limits) {p : Program} (ok : Accepted p) {s : State} (f : Facts (l 
     now-begun : w ≡ i → isFinish (here p (top (act s i)) .command) ≡ true → d ≡ act s i .depth → frame (act (after p s i) w) d .first ≡ s .activities → Stood w d
     still-open : w < s .activities → ended s w ≡ false → Open p (act s w) d → frame (act (after p s i) w) d .first ≡ frame (act s w) d .first → Stood w d
 
+  -- the shape of the step
   shape-of : Shape p s i (act s i) (here p (top (act s i)) .command) (effect p s i)
   shape-of = step-shape ok f i (t .spawned) (t .unended)
 
+  -- the state after it is well-formed
   facts-after : Facts (l .phase) p (after p s i)
   facts-after = step-facts l ok f z i t r
 
+  -- a child has one body, so none that a FINISH runs
   child-depth : (c : Activity) → effect p s i .spawned ≡ one c → c .depth ≡ 1
   unfolding child
   child-depth c q = rw (born (shape-of .offspring) q .like)
 
+  -- each is one of the two
   stood : (w d : ℕ) → w < after p s i .activities → ended (after p s i) w ≡ false → Open p (act (after p s i) w) d → Stood w d
   stood w d h u x = go (entry l ok f z i t r w)
     where
@@ -101,6 +107,7 @@ module _ (l : Limits) {p : Program} (ok : Accepted p) {s : State} (f : Facts (l 
       go (other e n q) = still-open (n h) (rw q at u) (subst (λ g. Open p g d) q x) (ap (λ g. frame g d .first) q)
 
   module _ {h : Insides} (y : Told p s h) where
+    -- its owner was there before it began
     later-after : (w d : ℕ) → Stood w d → w < frame (act (after p s i) w) d .first
     later-after w d (now-begun e o n q) = rw q (omega (arith, t .spawned))
     later-after w d (still-open a b c q) = rw q (y .later w d a b c)
@@ -156,6 +163,7 @@ module _ (l : Limits) {p : Program} (ok : Accepted p) {s : State} (f : Facts (l 
             chain-step (spawnerOf (after p s i)) (after p s i .activities) (λ y a b. facts-after .spawned y b .lower a) (leb first) w 64 (s .activities)
             (grown l ok f z i t r c q) (r .acts (ap spawns q))
 
+    -- whoever it is
     told-after : (w d x : ℕ) → Stood w d → x < after p s i .activities
         → insidesAfter p s i h w d x ≡ inside (after p s i) w (frame (act (after p s i) w) d .first) x
     unfolding insidesAfter beginsFinish at
@@ -177,6 +185,7 @@ module _ (l : Limits) {p : Program} (ok : Accepted p) {s : State} (f : Facts (l 
         go (newborn c e n b) = rw n (told-new w d a u o c e (subst (λ x. act (after p s i) x ≡ c) n b))
         go (other e n b) = told-old w d x a u o (n m)
 
+    -- the step keeps what the history and the state have to do with each other
     pub step-told : Told p (after p s i) (insidesAfter p s i h)
     step-told =
         record { later = λ w d a u o. later-after w d (stood w d a u o); told = λ w d x a u o m. told-after w d x (stood w d a u o) m }
@@ -189,6 +198,7 @@ pub record Point (l : Limits) (p : Program) (s : State) (h : Insides) : Type 0 w
   pub sized : Sized s
   pub telling : Told p s h
 
+-- at the start nothing is open
 start-told : (p : Program) → Told p startState noInsides
 start-told p = record { later = λ w d a u o. absurd (none w d a o); told = λ w d x a u o m. absurd (none w d a o) }
   where

@@ -22,11 +22,13 @@ use Rattle.rules.proofs.WellFormedPlaces.{moved}
 use Rattle.rules.proofs.WellFormedStack.{level, Stack, ran-first}
 use Rattle.rules.proofs.WellFormedShape.{Motion, stays, goes, begins, repeats, returns, halts}
 
+-- Frame d of a stack is a FINISH body.
 pub record Open (p : Program) (a : Activity) (d : ℕ) : Type 0 where
   pub above : 0 < d
   pub below : d < a .depth
   pub by : isFinish (here p (frame a (d - 1)) .command) ≡ true
 
+-- the test passes then
 pub open-test : {p : Program} {a : Activity} {d : ℕ} → Open p a d → isFinishBody p a d ≡ true
 unfolding isFinishBody finishes
 open-test {p} {a} {d} o = and-intro (ltb 0 d) _ (lt-ltb 0 d (o .above)) (and-intro (ltb d (a .depth)) _ (lt-ltb d (a .depth) (o .below)) (o .by))
@@ -38,6 +40,7 @@ open-first {p} {made} {a} {d} st o = go (d - 1) (omega (arith, o .above)) (o .by
     go : (k : ℕ) → d ≡ suc k → isFinish (here p (frame a k) .command) ≡ true → frame a d .first ≤ made
     go k e h = rw e (ran-first (st .stacked k (omega (arith, o .below)) .by) h .1)
 
+-- A FINISH body of b, which was a before command o: it begins now, or it stood open.
 pub data Opened (p : Program) (made : ℕ) (o : Command) (a b : Activity) (d : ℕ) : Type 0 where
   begun : isFinish o ≡ true → d ≡ a .depth → frame b d .first ≡ made → Opened p made o a b d
   before : Open p a d → frame b d .first ≡ frame a d .first → Opened p made o a b d
@@ -62,6 +65,7 @@ top-kept {a = a} {b} {d} f e q s x =
     kept x (omega (arith, x .below)) (rw s (getD-set-other (a .frames) (a .depth - 1) (d - 1) f noFrame (λ y. omega (arith, x .below, x .above))))
     (rw s (same-first (a .frames) (a .depth - 1) f e d))
 
+-- each motion
 pub opened : {p : Program} {made : ℕ} {a b : Activity} {d : ℕ} → length (a .frames) ≡ 16 → b .depth ≤ 16 → Motion p made (here p (top a) .command) a b → isEnded (b .status) ≡ false → Open p b d
     → Opened p made (here p (top a) .command) a b d
 opened {a = a} {b} {d} z m (stays o t e f) u x = kept x (omega (arith, x .below)) (rw f) (rw f)

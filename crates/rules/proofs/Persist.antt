@@ -34,6 +34,7 @@ use Rattle.rules.proofs.PersistTree.{entry, chain-old, chain-child}
 
 -- FAULTS
 
+-- READ and RESET look at one owner
 read-same : (s s′ : State) (x : ℕ) (a : Activity) (n : ℕ) → (unbound a n ≡ false → accumulator s′ (numberUnder a n) .owner ≡ accumulator s (numberUnder a n) .owner)
     → readFault (envOf s′) x a n ≡ readFault (envOf s) x a n
 unfolding readFault
@@ -99,6 +100,7 @@ wait-before p s s′ x a y ins bel beh (Atom k) e = absurd (true-false false e r
 -- THE STEP OF ANOTHER
 
 module _ (l : Limits) {p : Program} (ok : Accepted p) {s : State} (f : Facts (l .phase) p s) (z : Sized s) (i : ℕ) (t : Turn p s i) (r : Room l p s (effect p s i)) where
+  -- the shape of the step
   shape-of : Shape p s i (act s i) (here p (top (act s i)) .command) (effect p s i)
   shape-of = step-shape ok f i (t .spawned) (t .unended)
 
@@ -201,10 +203,12 @@ module _ (l : Limits) {p : Program} (ok : Accepted p) {s : State} (f : Facts (l 
 
 -- THE THEOREM
 
+-- what it says that an activity can step
 pub can-step : (p : Program) (s : State) (x : ℕ) → canStep p s x ≡ true → Turn p s x
 unfolding canStep
 can-step p s x e = turn p s x (eqb-true (refusal p s x) 0 e)
 
+-- who can step still can after the step of another
 pub persists : (l : Limits) {p : Program} → Accepted p → (s : State) → Sized s → wellFormed (l .phase) p s ≡ true → (x i : ℕ) → canStep p s x ≡ true → canStep p s i ≡ true → (x ≡ i → ⊥)
     → exceeds l p s (effect p s i) ≡ false → canStep p (applied s i (effect p s i)) x ≡ true
 unfolding canStep

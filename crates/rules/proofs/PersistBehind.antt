@@ -28,6 +28,7 @@ pub record Behind (c p : ℕ) (h : Hold) : Type 0 where
   pub clock : h .clock ≡ c
   pub order : (h .phase < p) ⊎ ((h .phase ≡ p) × (isLive (h .registration) ≡ true))
 
+-- what it says that a hold is behind
 pub behind-out : (c p : ℕ) (h : Hold) → isBehind c p h ≡ true → Behind c p h
 unfolding isBehind
 behind-out c p h e =
@@ -39,6 +40,7 @@ behind-out c p h e =
     go (inl l) = inl (ltb-true (h .phase) p l)
     go (inr l) = let q = and-true (eqb (h .phase) p) _ l in inr (eqb-true (h .phase) p (q .0), q .1)
 
+-- and back
 pub behind-in : (c p : ℕ) (h : Hold) → Behind c p h → isBehind c p h ≡ true
 unfolding isBehind
 behind-in c p h b = and-intro (isHeld (h .registration)) _ (b .held) (and-intro (eqb (h .clock) c) _ (eq-eqb (h .clock) c (b .clock)) (go (b .order)))
@@ -66,10 +68,12 @@ module _ (c p : ℕ) where
       go (inr l) (inl m) = inl (omega arith)
       go (inr l) (inr m) = inr (l .0 ∙ m .0, l .1 (m .1))
 
+  -- a free name is not behind
   behind-none : (h : Hold) → isBehind c p noHold ≡ true → isBehind c p h ≡ true
   unfolding isBehind
   behind-none h e = absurd (true-false false e refl)
 
+  -- who quiesces falls no further behind
   behind-quiesce : (h : Hold) → isBehind c p (quiesce h) ≡ true → isBehind c p h ≡ true
   behind-quiesce h = no-more h (quiesce h) (λ q. sym (quiesced-held (h .registration)) ∙ q) refl (λ q. inr (refl, live (h .registration)))
     where
@@ -78,15 +82,18 @@ module _ (c p : ℕ) where
       live Live e = refl
       live Quiesced e = e
 
+  -- nor who passes
   behind-pass : (h : Hold) → isBehind c p (pass h) ≡ true → isBehind c p h ≡ true
   behind-pass h = no-more h (pass h) (λ q. sym (revived-held (h .registration)) ∙ q) refl (λ q. inl (rw (sym (revived-held (h .registration)) ∙ q) (omega arith)))
 
   -- ALL CLOCK NAMES
 
+  -- all changed so
   behind-map : (f : Hold → Hold) → f noHold ≡ noHold → ((h : Hold) → isBehind c p (f h) ≡ true → isBehind c p h ≡ true) → (hs : List Hold) (k : ℕ)
       → isBehind c p (named (map f hs) k) ≡ true → isBehind c p (named hs k) ≡ true
   behind-map f e g hs k b = g (named hs k) (rw (named-map f e hs k) at b)
 
+  -- one changed so
   behind-set : (hs : List Hold) (n : ℕ) (h : Hold) → (isBehind c p h ≡ true → isBehind c p (named hs n) ≡ true) → (k : ℕ)
       → isBehind c p (named (set hs n h) k) ≡ true → isBehind c p (named hs k) ≡ true
   behind-set hs n h g k b = go (stored hs n h k noHold)

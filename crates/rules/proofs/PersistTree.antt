@@ -21,9 +21,11 @@ use Rattle.rules.proofs.WellFormedApply.{after, Turn, Room, step-shape,
 use Rattle.rules.proofs.WellFormedStep.{step-facts}
 
 module _ (l : Limits) {p : Program} (ok : Accepted p) {s : State} (f : Facts (l .phase) p s) (z : Sized s) (i : ℕ) (t : Turn p s i) (r : Room l p s (effect p s i)) where
+  -- the shape of the step
   shape-of : Shape p s i (act s i) (here p (top (act s i)) .command) (effect p s i)
   shape-of = step-shape ok f i (t .spawned) (t .unended)
 
+  -- what each entry is after it
   pub entry : (y : ℕ) → Now s i (effect p s i) y
   entry y = now s i (effect p s i) (z .acts64) (t .spawned) (f .acts64) (r .acts) y
 
@@ -47,6 +49,7 @@ module _ (l : Limits) {p : Program} (ok : Accepted p) {s : State} (f : Facts (l 
   unfolding child
   spawner-new c q = rw (born (shape-of .offspring) q .like)
 
+  -- there is one more
   pub grown : (c : Activity) → effect p s i .spawned ≡ one c → s .activities < after p s i .activities
   unfolding applied
   grown c q = rw q (omega arith)

@@ -31,6 +31,7 @@ unfolding unfit
 fit l t s n w = rw (n, w)
 
 module _ (l : Limits) (t : List ℕ) (s : State) (i : ℕ) where
+  -- The program of the table.
   abbrev p : Program
   p = programOf t
 
@@ -42,6 +43,7 @@ module _ (l : Limits) (t : List ℕ) (s : State) (i : ℕ) where
     takes : numberOf (l .work) t ≡ 0 → wellFormed (l .phase) p s ≡ true → refusal p s i ≡ 0 → exceeds l p s (effect p s i) ≡ false
         → step l t s i ≡ stepped (Accepted (effect p s i .self .status)) (applied s i (effect p s i)) → Outcome
 
+  -- no number 1 to 13
   fit-parts : unfit l (numberOf (l .work) t) p s ≡ 0 → (numberOf (l .work) t ≡ 0) × (wellFormed (l .phase) p s ≡ true)
   unfolding unfit
   fit-parts e = go (numberOf (l .work) t) (wellFormed (l .phase) p s) e (decide (eqb (numberOf (l .work) t) 0))
@@ -51,6 +53,7 @@ module _ (l : Limits) (t : List ℕ) (s : State) (i : ℕ) where
       go n false e (inl h) = let z : _≡_ {A = ℕ} 13 0 = rw h at e in absurd (omega arith)
       go n w e (inr h) = absurd (eqb-false n 0 h (rw h at e))
 
+  -- each call is one of the four
   pub outcome : Outcome
   unfolding step stepWith advance
   outcome =
@@ -112,6 +115,7 @@ refusal-not17 p s i = go (ltb i (s .activities)) (ended s i) (waits p s i)
 
 -- step and ready set agree on 14 to 16
 module _ (l : Limits) (t : List ℕ) (s : State) (number : numberOf (l .work) t ≡ 0) (formed : wellFormed (l .phase) (programOf t) s ≡ true) where
+  -- a bit of the ready set tells who can step
   pub ready-bit : (i : ℕ) → bit (ready l t s .set) i ≡ canStep (programOf t) s i
   unfolding ready canStep
   ready-bit i = rw (fit l t s number formed) (go (decLt i 64))
@@ -123,6 +127,7 @@ module _ (l : Limits) (t : List ℕ) (s : State) (number : numberOf (l .work) t 
       go (yes h) = bit-at 64 (canStep (programOf t) s) i h
       go (no h) = bit-past 64 (canStep (programOf t) s) i (omega arith) ∙ rw (refusal-past (programOf t) s i (omega (arith, f .acts64)))
 
+  -- that is, whom the step does not turn down with 14 to 16
   pub ready-agrees : (i : ℕ) → bit (ready l t s .set) i ≡ mayGo (step l t s i .answer)
   unfolding canStep
   ready-agrees i = ready-bit i ∙ go (outcome l t s i)

@@ -29,11 +29,13 @@ use Rattle.rules.proofs.WellFormedShape.{Shape, fails, shape, Naming, k
 
 -- WHO MAY STEP
 
+-- An activity that numbers 14 to 16 do not turn down.
 pub record Turn (p : Program) (s : State) (i : ℕ) : Type 0 where
   pub spawned : i < s .activities
   pub unended : ended s i ≡ false
   pub moves : waits p s i ≡ false
 
+-- what it says that there is no such number
 pub turn : (p : Program) (s : State) (i : ℕ) → refusal p s i ≡ 0 → Turn p s i
 unfolding refusal
 turn p s i e = go (ltb i (s .activities)) refl (ended s i) refl (waits p s i) refl e
@@ -44,16 +46,19 @@ turn p s i e = go (ltb i (s .activities)) refl (ended s i) refl (waits p s i) re
     go true h false m false w e = record { spawned = ltb-true i (s .activities) h; unended = m; moves = w }
     go false h y m z w e = absurd (omega arith)
 
+-- and back
 pub turn-back : (p : Program) (s : State) (i : ℕ) → Turn p s i → refusal p s i ≡ 0
 unfolding refusal
 turn-back p s i t = rw (lt-ltb i (s .activities) (t .spawned), t .unended, t .moves)
 
 -- WHAT THERE IS ROOM FOR
 
+-- neither of two tests passes
 or-false : (a b : Bool) → a || b ≡ false → (a ≡ false) × (b ≡ false)
 or-false true b e = absurd (true-false true refl e)
 or-false false b e = (refl, e)
 
+-- Number 17 does not turn the effect down.
 pub record Room (l : Limits) (p : Program) (s : State) (e : Effect) : Type 0 where
   pub acts : spawns (e .spawned) ≡ true → s .activities < 64
   pub clocks : e .clocked ≡ true → s .clocks < 16
@@ -61,6 +66,7 @@ pub record Room (l : Limits) (p : Program) (s : State) (e : Effect) : Type 0 whe
   pub phases : (k : ℕ) → k < 8 → hold (e .self) k .phase ≤ l .phase
   pub steps : s .steps < workOf p
 
+-- what it says that nothing is exceeded
 pub room : (l : Limits) (p : Program) (s : State) (e : Effect) → exceeds l p s e ≡ false → Room l p s e
 unfolding exceeds
 room l p s e x =
@@ -85,6 +91,7 @@ module _ {limit : ℕ} {p : Program} {s : State} (ok : Accepted p) (f : Facts li
       let x = f .spawned i l in
       placed-sound ok (top (act s i)) (x .stack .placed (act s i .depth - 1) (omega (arith, x .bodied u)))
 
+  -- what its step does has a shape, a fault too
   pub step-shape : i < s .activities → ended s i ≡ false → Shape p s i (act s i) (here p (top (act s i)) .command) (effect p s i)
   unfolding effect fault at
   step-shape l u = go (eqb n 0) refl
@@ -106,11 +113,13 @@ after p s i = applied s i (effect p s i)
 
 -- THE ACTIVITIES AFTER AN EFFECT
 
+-- What entry x is after an effect.
 pub data Now (s : State) (i : ℕ) (e : Effect) (x : ℕ) : Type 0 where
   self : x ≡ i → act (applied s i e) x ≡ e .self → Now s i e x
   newborn : (c : Activity) → e .spawned ≡ one c → x ≡ s .activities → act (applied s i e) x ≡ c → Now s i e x
   other : (x ≡ i → ⊥) → (x < applied s i e .activities → x < s .activities) → act (applied s i e) x ≡ act s x → Now s i e x
 
+-- each entry is one of the three
 pub now : (s : State) (i : ℕ) (e : Effect) → length (s .acts) ≡ 64 → i < s .activities → s .activities ≤ 64 → (spawns (e .spawned) ≡ true → s .activities < 64) → (x : ℕ) → Now s i e x
 unfolding applied
 now s i e z l m r x = go (e .spawned) refl r (ℕ-discrete x i) (ℕ-discrete x (s .activities))
@@ -146,12 +155,15 @@ pub record Counted (b : ℕ) (grows : Bool) (n m : ℕ) : Type 0 where
   pub up : n ≤ m
   pub fits : n ≤ b → (grows ≡ true → n < b) → m ≤ b
 
+-- a count that stays
 stays : {b n : ℕ} {grows : Bool} → Counted b grows n n
 stays = record { up = omega arith; fits = λ h g. h }
 
+-- a count that rises
 rises : {b n : ℕ} → Counted b true n (n + 1)
 rises = record { up = omega arith; fits = λ h g. omega (arith, g refl) }
 
+-- the activities
 pub acts-after : (s : State) (i : ℕ) (e : Effect) → Counted 64 (spawns (e .spawned)) (s .activities) (applied s i e .activities)
 unfolding applied
 acts-after s i e = go (e .spawned)
@@ -160,6 +172,7 @@ acts-after s i e = go (e .spawned)
     go nobody = stays
     go (one c) = rises
 
+-- the clocks
 pub clocks-after : (s : State) (i : ℕ) (e : Effect) → Counted 16 (e .clocked) (s .clocks) (applied s i e .clocks)
 unfolding applied
 clocks-after s i e = go (e .clocked)
@@ -168,6 +181,7 @@ clocks-after s i e = go (e .clocked)
     go false = stays
     go true = rises
 
+-- the accumulators
 pub accs-after : (s : State) (i : ℕ) (e : Effect) → Counted 16 (makes (e .write)) (s .accumulators) (applied s i e .accumulators)
 unfolding applied
 accs-after s i e = go (e .write)

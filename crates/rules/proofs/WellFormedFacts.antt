@@ -32,6 +32,7 @@ pub record ActivityFacts (limit : ℕ) (p : Program) (acts clocks accs i : ℕ) 
   pub main : i ≡ 0 → a .spawner ≡ 0
   pub lower : 0 < i → a .spawner < i
 
+-- What holds of a state.
 pub record Facts (limit : ℕ) (p : Program) (s : State) : Type 0 where
   pub acts64 : s .activities ≤ 64
   pub clocks16 : s .clocks ≤ 16
@@ -50,15 +51,18 @@ unfolding spawnerFits
 spawner-out zero a e = (λ q. eqb-true (a .spawner) 0 e, λ q. absurd (omega arith))
 spawner-out (suc i) a e = (λ q. absurd (omega arith), λ q. ltb-true (a .spawner) (suc i) e)
 
+-- and back
 spawner-in : (i : ℕ) (a : Activity) → (i ≡ 0 → a .spawner ≡ 0) → (0 < i → a .spawner < i) → spawnerFits i a ≡ true
 unfolding spawnerFits
 spawner-in zero a e l = eq-eqb (a .spawner) 0 (e refl)
 spawner-in (suc i) a e l = lt-ltb (a .spawner) (suc i) (l (omega arith))
 
 module _ (limit : ℕ) (p : Program) (s : State) (i : ℕ) where
+  -- What holds of activity i of the state.
   abbrev Of : Type 0
   Of = ActivityFacts limit p (s .activities) (s .clocks) (s .accumulators) i (act s i)
 
+  -- what the tests of an activity say
   activity-facts : activityFits limit p s i ≡ true → Of
   unfolding activityFits bodyFits barrierFits holdsSome
   activity-facts e =
@@ -87,6 +91,7 @@ module _ (limit : ℕ) (p : Program) (s : State) (i : ℕ) where
           let q = and-true (eqb (act s i .depth) 0) _ (rw h at e) in
           (eqb-true (act s i .depth) 0 (q .0), someBelow-none 8 (holds (act s i)) (not-true _ (q .1)))
 
+  -- and back
   activity-fits : Of → activityFits limit p s i ≡ true
   unfolding activityFits bodyFits barrierFits holdsSome
   activity-fits x =
@@ -131,6 +136,7 @@ facts-more acts′ clocks′ accs′ l m n x =
 -- STATES
 
 module _ (limit : ℕ) (p : Program) (s : State) where
+  -- what the tests of a state say
   pub facts : wellFormed limit p s ≡ true → Facts limit p s
   unfolding wellFormed countsFit activitiesFit accumulatorsFit
   facts e =
@@ -160,6 +166,7 @@ module _ (limit : ℕ) (p : Program) (s : State) where
           → (n : ℕ) → n < 16 → cond (ltb n (s .accumulators)) (ltb (accumulator s n .owner) (s .activities)) (isNoAccumulator (accumulator s n)) ≡ true
       all e = allBelow-at 16 (λ n. cond (ltb n (s .accumulators)) (ltb (accumulator s n .owner) (s .activities)) (isNoAccumulator (accumulator s n))) e
 
+  -- and back
   pub formed : Facts limit p s → wellFormed limit p s ≡ true
   unfolding wellFormed countsFit activitiesFit accumulatorsFit
   formed x =

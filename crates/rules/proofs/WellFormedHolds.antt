@@ -23,16 +23,19 @@ use Rattle.rules.proofs.Tests.{and-true, and-intro, not-true, true-fals
 use Rattle.rules.proofs.Search.{allBelow-at, allBelow-intro}
 use Rattle.rules.proofs.Lists.{Stored, new, old, stored}
 
+-- The hold under a name.
 abbrev pub named : List Hold → ℕ → Hold
 named hs k = getD hs k noHold
 
 -- ONE HOLD
 
+-- What a hold is like: held, or all 0.
 pub record Fits (limit made : ℕ) (h : Hold) : Type 0 where
   pub low : isHeld (h .registration) ≡ true → h .phase ≤ limit
   pub known : isHeld (h .registration) ≡ true → h .clock < made
   pub free : isHeld (h .registration) ≡ false → h ≡ noHold
 
+-- an entry that is 0 is no hold
 no-hold : (h : Hold) → isNoHold h ≡ true → h ≡ noHold
 no-hold h e =
     let q = and-true (eqb (h .phase) 0) _ e in
@@ -44,9 +47,11 @@ no-hold h e =
     go Live x y z = absurd (omega arith)
     go Quiesced x y z = absurd (omega arith)
 
+-- The test of a hold.
 abbrev fitting : ℕ → ℕ → Hold → Bool
 fitting limit made h = cond (isHeld (h .registration)) (leb (h .phase) limit && ltb (h .clock) made) (isNoHold h)
 
+-- what the test says
 fits-out : (limit made : ℕ) (h : Hold) → fitting limit made h ≡ true → Fits limit made h
 fits-out limit made h e =
     record {
@@ -55,6 +60,7 @@ fits-out limit made h e =
       free = λ q. no-hold h (rw q at e);
     }
 
+-- and back
 fits-in : (limit made : ℕ) (h : Hold) → Fits limit made h → fitting limit made h ≡ true
 fits-in limit made h x = go (decide (isHeld (h .registration)))
   where
@@ -62,9 +68,11 @@ fits-in limit made h x = go (decide (isHeld (h .registration)))
     go (inl q) = rw q (and-intro (leb (h .phase) limit) _ (le-leb (h .phase) limit (x .low q)) (lt-ltb (h .clock) made (x .known q)))
     go (inr q) = rw (x .free q)
 
+-- a free name
 pub fits-none : (limit made : ℕ) → Fits limit made noHold
 fits-none limit made = record { low = λ q. absurd (true-false false q refl); known = λ q. absurd (true-false false q refl); free = λ q. refl }
 
+-- more clocks do no harm
 pub fits-more : {limit made : ℕ} {h : Hold} (made′ : ℕ) → made ≤ made′ → Fits limit made h → Fits limit made′ h
 fits-more made′ l x = record { low = x .low; known = λ q. omega (arith, x .known q); free = x .free }
 
@@ -75,11 +83,13 @@ fits-like {limit} {made} {h} g same low clock free x = record { low = low; known
 
 -- QUIESCING AND PASSING
 
+-- quiescing neither takes nor leaves a clock
 pub quiesced-held : (r : Registration) → isHeld (quiesced r) ≡ isHeld r
 quiesced-held Free = refl
 quiesced-held Live = refl
 quiesced-held Quiesced = refl
 
+-- nor does passing
 pub revived-held : (r : Registration) → isHeld (revived r) ≡ isHeld r
 revived-held Free = refl
 revived-held Live = refl
@@ -87,10 +97,12 @@ revived-held Quiesced = refl
 
 -- ALL CLOCK NAMES
 
+-- What the holds of an activity are like.
 pub record Held (limit made : ℕ) (hs : List Hold) : Type 0 where
   pub fits : (k : ℕ) → k < 8 → Fits limit made (named hs k)
   pub distinct : (j k : ℕ) → j < k → k < 8 → isHeld (named hs j .registration) ≡ true → isHeld (named hs k .registration) ≡ true → named hs j .clock ≡ named hs k .clock → ⊥
 
+-- what their tests say
 pub held : (limit made : ℕ) (a : Activity) → allBelow 8 (holdFits limit made a) ≡ true → namesFit a ≡ true → Held limit made (a .holds)
 unfolding holdFits namesFit
 held limit made a e n =
@@ -105,6 +117,7 @@ held limit made a e n =
     apart : {x y z : Bool} → not (x && y) || z ≡ true → x ≡ true → y ≡ true → z ≡ true
     apart {x} {y} {z} h p q = rw (p, q) at h
 
+-- and back
 pub held-back : (limit made : ℕ) (a : Activity) → Held limit made (a .holds) → (allBelow 8 (holdFits limit made a) ≡ true) × (namesFit a ≡ true)
 unfolding holdFits namesFit
 held-back limit made a x = (
@@ -118,6 +131,7 @@ held-back limit made a x = (
     go j k l m (inl p) (inr q) = rw (p, q)
     go j k l m (inr p) q = rw p
 
+-- more clocks do no harm
 pub held-more : {limit made : ℕ} {hs : List Hold} (made′ : ℕ) → made ≤ made′ → Held limit made hs → Held limit made′ hs
 held-more made′ l x = record { fits = λ k m. fits-more made′ l (x .fits k m); distinct = x .distinct }
 
@@ -130,14 +144,17 @@ held-like gs same clock fits x =
       distinct = λ j k l m p q c. x .distinct j k l m (same j (omega arith) p) (same k m q) (sym (clock j (omega arith) p) ∙ c ∙ clock k m q);
     }
 
+-- where no clock is held, no name has one
 pub named-none : (n k : ℕ) → named (replicate n noHold) k ≡ noHold
 named-none zero k = refl
 named-none (suc n) zero = refl
 named-none (suc n) (suc k) = named-none n k
 
+-- the hold under a name after all were changed
 pub named-map : (f : Hold → Hold) → f noHold ≡ noHold → (hs : List Hold) (k : ℕ) → named (map f hs) k ≡ f (named hs k)
 named-map f e hs k = ap (λ d. getD (map f hs) k d) (sym e) ∙ List·getD-map f hs k noHold
 
+-- no clock is held
 pub held-none : {limit made : ℕ} → Held limit made noHolds
 held-none {limit} {made} =
     record { fits = λ k l. rw (named-none 8 k) (fits-none limit made); distinct = λ j k l m p q c. true-false false (rw (named-none 8 j) at p) refl }
@@ -190,10 +207,12 @@ held-new {limit} {made} {hs} n x =
 
 -- WHAT IS LENT
 
+-- What a child gets under name k, whose bit of the mask is at `at`: its spawner's clock, live, or nothing.
 pub data Lent (m : ℕ) (hs : List Hold) (at k : ℕ) (h : Hold) : Type 0 where
   lends : bit m at ≡ true → h ≡ record { phase = named hs k .phase; clock = named hs k .clock; registration = Live } → Lent m hs at k h
   keeps : h ≡ noHold → Lent m hs at k h
 
+-- each name is one of the two, where the first is name j
 pub lent-at : (m j : ℕ) (hs : List Hold) (k : ℕ) → Lent m hs (j + k) k (named (lent m j hs) k)
 unfolding lent
 lent-at m j [] k = keeps refl
@@ -208,6 +227,7 @@ lent-at m j (x ∷ hs) (suc k) = let z : j + suc k ≡ suc j + k = omega arith i
     go (lends e p) = lends e p
     go (keeps p) = keeps p
 
+-- the same from name 0 on
 pub lent-held : (m : ℕ) (hs : List Hold) (k : ℕ) → Lent m hs k k (named (lent m 0 hs) k)
 lent-held m hs k = let z : 0 + k ≡ k = omega arith in rw z at (lent-at m 0 hs k)
 

@@ -56,16 +56,19 @@ at-next n b (x ∷ (y ∷ r)) at s e g = go (at-next n b (y ∷ r) at (s .3)) (d
 abbrev pub moved : Program → Frame → Frame
 moved p f = record { offset = nextOffset p f; body = f .body; runs = f .runs; first = f .first }
 
+-- a frame that stands on a command is of a body of the table
 pub placed-body : (p : Program) (f : Frame) → isPlaced p f ≡ true → f .body < length p
 unfolding isPlaced
 placed-body p f h = ltb-true (f .body) (length p) (and-true (ltb (f .body) (length p)) _ h .0)
 
 module _ {p : Program} (ok : Accepted p) where
+  -- the command that it stands on is sound
   pub placed-sound : (f : Frame) → isPlaced p f ≡ true → Sound (length p) (f .body) (here p f)
   unfolding isPlaced here rest
   placed-sound f h =
       at-sound (length p) (f .body) (getD p (f .body) []) (f .offset) (ok .shaped (f .body) (placed-body p f h)) (and-true (ltb (f .body) (length p)) _ h .1)
 
+  -- past a command that is not END it stands on the next
   pub placed-next : (f : Frame) → isPlaced p f ≡ true → isEnd (here p f .command) ≡ false → isPlaced p (moved p f) ≡ true
   unfolding isPlaced here nextOffset rest
   placed-next f h g =

@@ -85,6 +85,7 @@ pub born : {i : ℕ} {a : Activity} {o : Command} {w : Spawned} {c : Activity} �
 born (childless n) e = let z : _≡_ {A = ℕ} 0 1 = cc in absurd (omega arith)
 born (bears b m o n h) e = record { body = b; mask = m; by = o; like = cc; lent = h }
 
+-- The shape of effect e of activity i, which is a, at command o.
 pub record Shape (p : Program) (s : State) (i : ℕ) (a : Activity) (o : Command) (e : Effect) : Type 0 where
   pub motion : Motion p (s .activities) o a (e .self)
   pub holding : Holding (s .clocks) (e .clocked) a (e .self)
@@ -94,6 +95,7 @@ pub record Shape (p : Program) (s : State) (i : ℕ) (a : Activity) (o : Command
 
 -- A FAULT
 
+-- a fault ends the activity, as END of the last body does
 pub fails : {p : Program} {s : State} {i : ℕ} {a : Activity} {o : Command} (status : Status) → isEnded status ≡ true → Shape p s i a o (failing a status)
 fails status e = record { motion = halts e refl refl refl; holding = leaves refl refl; naming = keeps refl refl; spawner = refl; offspring = childless refl }
 
@@ -106,16 +108,19 @@ runs AtBarrier e b = absurd (true-false true refl b)
 runs Ended e b = absurd (true-false true refl e)
 runs (Faulted f) e b = absurd (true-false true refl e)
 
+-- no F1: each clock lent is held
 lends-held : (a : Activity) (m : ℕ) → lendsUnheld a m ≡ false → (k : ℕ) → k < 8 → bit m k ≡ true → holds a k ≡ true
 unfolding lendsUnheld
 lends-held a m e k l b = and-not (bit m k) _ (someBelow-none 8 (λ k. bit m k && not (holds a k)) e k l) b
 
+-- no F2: and live
 lends-live : (a : Activity) (m : ℕ) → lendsQuiesced a m ≡ false → (k : ℕ) → k < 8 → bit m k ≡ true → holds a k ≡ true → isLive (hold a k .registration) ≡ true
 unfolding lendsQuiesced
 lends-live a m e k l b h =
     and-not (holds a k) _ (and-false (bit m k) _ (someBelow-none 8 (λ k. bit m k && (holds a k && not (isLive (hold a k .registration)))) e k l) b) h
 
 module _ (p : Program) (s : State) (i : ℕ) (a : Activity) (live : isEnded (a .status) ≡ false) (bounds : (n : ℕ) → n < 8 → bound a n ≤ s .accumulators) where
+  -- who is not on NEXT runs
   still : (o : Command) → (isAtBarrier (a .status) ≡ true → opcode o ≡ 1) → (opcode o ≡ 1 → ⊥) → a .status ≡ Running
   still o h n = go (decide (isAtBarrier (a .status)))
     where
@@ -136,6 +141,7 @@ module _ (p : Program) (s : State) (i : ℕ) (a : Activity) (live : isEnded (a .
         offspring = childless none;
       }
 
+  -- END
   of-end : (inner : List Command) → a .status ≡ Running → Shape p s i a End (effectOf p (envOf s) i a End inner)
   unfolding effectOf endOf again popped past isEnd opcode
   of-end inner r = go (leb (a .depth) 1) refl (ltb 1 (top a .runs)) refl
@@ -153,6 +159,7 @@ module _ (p : Program) (s : State) (i : ℕ) (a : Activity) (live : isEnded (a .
       go false d false t =
           record { motion = returns refl (leb-false (a .depth) 1 d) r refl refl; holding = same refl refl; naming = keeps refl refl; spawner = refl; offspring = childless refl }
 
+  -- NEXT
   of-next : (inner : List Command) → Shape p s i a Next (effectOf p (envOf s) i a Next inner)
   unfolding effectOf nextOf past isEnd opcode
   of-next inner = go (isAtBarrier (a .status))
@@ -165,6 +172,7 @@ module _ (p : Program) (s : State) (i : ℕ) (a : Activity) (live : isEnded (a .
   number-made : (n : ℕ) → n < 8 → unbound a n ≡ false → numberUnder a n < s .accumulators
   number-made n l e = omega (arith, bounds n l, eqb-false (bound a n) 0 e)
 
+  -- each command that meets no fault
   pub shape : (o : Command) (inner : List Command) → (isAtBarrier (a .status) ≡ true → opcode o ≡ 1) → Ranged o → faultFor p (envOf s) i a o ≡ 0
       → Shape p s i a o (effectOf p (envOf s) i a o inner)
   unfolding effectOf faultFor readFault asyncFault repeatOf past pushed isEnd opcode Ranged rowOf rowAt rows operandsOf touch

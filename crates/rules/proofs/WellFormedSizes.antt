@@ -22,27 +22,31 @@ use Rattle.rules.proofs.WellFormedFacts.{Facts, facts}
 use Rattle.rules.proofs.WellFormedShape.{Motion, stays, goes, begins, repeats, returns, halts, Holding, same, quiesces, passes, clocks, resumes, drops, leaves, Naming, keeps, adds, offers, resets, born, Shape}
 use Rattle.rules.proofs.WellFormedApply.{Turn, turn, room, step-shape, Now, self, newborn, other, now}
 
-
+-- the cells
 stores-length : (cells : List ℕ) (l : List Stored) → length (withStores cells l) ≡ length cells
 unfolding withStores
 stores-length cells [] = refl
 stores-length cells (x ∷ xs) = length-set (withStores cells xs) (x .cell) (x .value) ∙ stores-length cells xs
 
+-- the accumulators
 written-length : (s : State) (w : Write) → length (withWritten s w) ≡ length (s .accs)
 written-length s keep = refl
 written-length s (make c) = length-set (s .accs) (s .accumulators) c
 written-length s (offer x v) = length-set (s .accs) x _
 written-length s (reset x v) = length-set (s .accs) x _
 
+-- the activities
 acts-length : (n i : ℕ) (acts : List Activity) (a : Activity) (c : Spawned) → length (withSpawned n (set acts i a) c) ≡ length acts
 acts-length n i acts a nobody = length-set acts i a
 acts-length n i acts a (one c) = length-set (set acts i a) n c ∙ length-set acts i a
 
+-- the clock names of a child
 lent-length : (m k : ℕ) (hs : List Hold) → length (lent m k hs) ≡ length hs
 unfolding lent
 lent-length m k [] = refl
 lent-length m k (h ∷ hs) = ap suc (lent-length m (suc k) hs)
 
+-- the stack of the one who steps
 frames-length : {p : Program} {made : ℕ} {o : Command} {a b : Activity} → Motion p made o a b → length (a .frames) ≡ 16 → length (b .frames) ≡ 16
 frames-length (stays o t d f) e = rw f e
 frames-length (goes o t d f) e = rw f (simp length-set e)
@@ -51,6 +55,7 @@ frames-length (repeats o l r t d f) e = rw f (simp length-set e)
 frames-length (returns o l t d f) e = rw f (simp length-set e)
 frames-length (halts t d f h) e = rw f (length-replicate 16 noFrame)
 
+-- its clock names
 holds-length : {next : ℕ} {clocked : Bool} {a b : Activity} → Holding next clocked a b → length (a .holds) ≡ 8 → length (b .holds) ≡ 8
 holds-length (same c h) e = rw h e
 holds-length {a = a} (quiesces c h) e = rw h (length-map (a .holds) quiesce ∙ e)
@@ -60,6 +65,7 @@ holds-length (resumes k c l h) e = rw h (simp length-set e)
 holds-length (drops k c l h) e = rw h (simp length-set e)
 holds-length (leaves c h) e = rw h (length-replicate 8 noHold)
 
+-- its accumulator names
 names-length : {next i : ℕ} {a b : Activity} {w : Write} → Naming next i a b w → length (a .accumulators) ≡ 8 → length (b .accumulators) ≡ 8
 names-length (keeps w h) e = rw h e
 names-length (adds k o w h) e = rw h (simp length-set e)
@@ -70,6 +76,7 @@ names-length (resets y v w m h) e = rw h e
 
 module _ (l : Limits) {p : Program} (ok : Accepted p) (s : State) (z : Sized s) (i : ℕ) (w : wellFormed (l .phase) p s ≡ true) (r : refusal p s i ≡ 0)
     (x : exceeds l p s (effect p s i) ≡ false) where
+  -- an accepted step, a faulting one too, keeps all sizes
   pub step-sized : Sized (applied s i (effect p s i))
   unfolding applied
   step-sized =

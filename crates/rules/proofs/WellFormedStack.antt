@@ -31,6 +31,7 @@ pub data Ran (made : ℕ) (o : Command) (f : Frame) : Type 0 where
   byFinish : (b : ℕ) → o ≡ Finish b → f .body ≡ b → f .runs ≡ 0 → f .first ≤ made → Ran made o f
   byRepeat : (n b : ℕ) → o ≡ Repeat n b → f .body ≡ b → 1 ≤ f .runs → f .runs ≤ n → f .first ≡ 0 → Ran made o f
 
+-- what the test says
 pub ran : (made : ℕ) (o : Command) (f : Frame) → runBy made o f ≡ true → Ran made o f
 unfolding runBy
 ran made End f e = absurd (true-false false e refl)
@@ -58,6 +59,7 @@ ran made (Store d) f e = absurd (true-false false e refl)
 ran made (Add d) f e = absurd (true-false false e refl)
 ran made (Atom k) f e = absurd (true-false false e refl)
 
+-- and back
 pub ran-back : {made : ℕ} {o : Command} {f : Frame} → Ran made o f → runBy made o f ≡ true
 unfolding runBy
 ran-back {made} {o} {f} (byFinish b e p q r) = rw e (and-intro (eqb (f .body) b) _ (eq-eqb _ _ p) (and-intro (eqb (f .runs) 0) _ (eq-eqb _ _ q) (le-leb _ _ r)))
@@ -94,13 +96,16 @@ ran-first {o = o} (byRepeat n b e p q r u) h = absurd (true-false (isFinish o) h
 
 -- STACKS
 
+-- The frame at a level of a stack.
 abbrev pub level : List Frame → ℕ → Frame
 level fs d = getD fs d noFrame
 
+-- A frame on another.
 pub record Stacked (p : Program) (made : ℕ) (below f : Frame) : Type 0 where
   pub by : Ran made (here p below .command) f
   pub rises : below .body < f .body
 
+-- What a stack of so many frames is like.
 pub record Stack (p : Program) (made depth : ℕ) (fs : List Frame) : Type 0 where
   pub few : depth ≤ 16
   pub placed : (d : ℕ) → d < depth → isPlaced p (level fs d) ≡ true
@@ -108,16 +113,19 @@ pub record Stack (p : Program) (made depth : ℕ) (fs : List Frame) : Type 0 whe
   pub stacked : (d : ℕ) → suc d < depth → Stacked p made (level fs d) (level fs (suc d))
   pub unused : (d : ℕ) → depth ≤ d → d < 16 → isNoFrame (level fs d) ≡ true
 
+-- what the test of a frame on another says
 stacked-out : (p : Program) (made : ℕ) (below f : Frame) → isStacked p made below f ≡ true → Stacked p made below f
 unfolding isStacked
 stacked-out p made below f e =
     let q = and-true (runBy made (here p below .command) f) _ e in
     record { by = ran made (here p below .command) f (q .0); rises = ltb-true (below .body) (f .body) (q .1) }
 
+-- and back
 stacked-in : (p : Program) (made : ℕ) (below f : Frame) → Stacked p made below f → isStacked p made below f ≡ true
 unfolding isStacked
 stacked-in p made below f x = and-intro (runBy made (here p below .command) f) _ (ran-back (x .by)) (lt-ltb (below .body) (f .body) (x .rises))
 
+-- what the tests of a stack say
 pub stack : (p : Program) (made : ℕ) (a : Activity) → stackFits p made a ≡ true → Stack p made (a .depth) (a .frames)
 unfolding stackFits frameFits
 stack p made a e =
@@ -145,6 +153,7 @@ stack p made a e =
     placed zero l h = and-true (isPlaced p (frame a 0)) _ h .0
     placed (suc d) l h = and-true (isPlaced p (frame a (suc d))) _ h .0
 
+-- and back
 pub stack-back : (p : Program) (made : ℕ) (a : Activity) → Stack p made (a .depth) (a .frames) → stackFits p made a ≡ true
 unfolding stackFits frameFits
 stack-back p made a x =

@@ -26,18 +26,22 @@ use Rattle.rules.proofs.WellFormedStep.{stack-none}
 abbrev pub main : Activity
 main = withFrames noActivity 1 noFrames
 
+-- activity 0 is main
 pub start-main : act startState 0 ≡ main
 start-main = getD-set-same (zeroState .acts) 0 main absent (omega (arith, length-replicate 64 noActivity))
 
+-- the others are not spawned
 start-other : (i : ℕ) → 0 < i → i < 64 → act startState i ≡ noActivity
 start-other i l m = getD-set-other (zeroState .acts) 0 i main absent (λ q. omega arith) ∙ getD-replicate 64 i noActivity absent m
 
+-- main stands at the first command of body 0
 main-stack : {p : Program} → Accepted p → Stack p 1 1 noFrames
 unfolding isBottom
 main-stack {p} ok =
     stack-put 0 1 noFrames noFrame (stack-none p 1) refl (omega arith) (omega arith) (λ d h. absurd (not-suc-le-zero h)) (getD-replicate 16 0 noFrame noFrame (omega arith))
     (λ d h m. rw (getD-replicate 16 d noFrame noFrame m)) (placed-begun ok noFrame (ok .some) refl) (record { lowest = λ q. refl; higher = λ j q. absurd (omega arith) })
 
+-- what holds of main
 main-facts : (limit : ℕ) {p : Program} → Accepted p → ActivityFacts limit p 1 0 0 0 main
 main-facts limit ok =
     record {
@@ -51,10 +55,12 @@ main-facts limit ok =
       lower = λ e. absurd (not-suc-le-zero e);
     }
 
+-- an unused entry is all 0
 empty : isNoActivity noActivity ≡ true
 unfolding isNoActivity allBelow
 empty = refl
 
+-- what holds of the start state
 pub start-facts : (limit : ℕ) {p : Program} → Accepted p → Facts limit p startState
 start-facts limit {p} ok =
     record {
@@ -68,9 +74,11 @@ start-facts limit {p} ok =
       unowned = λ n l m. rw (getD-replicate 16 n noAccumulator noAccumulator m);
     }
 
+-- the start state is well-formed
 pub start-wellFormed : (limit : ℕ) {p : Program} → Accepted p → wellFormed limit p startState ≡ true
 start-wellFormed limit {p} ok = formed limit p startState (start-facts limit ok)
 
+-- and sized
 pub start-sized : Sized startState
 start-sized =
     record {

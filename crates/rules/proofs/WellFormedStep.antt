@@ -38,6 +38,7 @@ use Rattle.rules.proofs.WellFormedApply.{after, Turn, turn, Room, room,
 
 -- STACKS
 
+-- a stack with no body
 pub stack-none : (p : Program) (made : ℕ) → Stack p made 0 noFrames
 stack-none p made =
     record {
@@ -67,6 +68,7 @@ module _ {p : Program} (ok : Accepted p) {made : ℕ} (a : Activity) (st : Stack
       (λ d l. getD-set-other (a .frames) (a .depth - 1) d f noFrame (λ q. omega arith)) (getD-set-same (a .frames) (a .depth - 1) f noFrame (omega (arith, st .few)))
       (λ d l m. rw (getD-set-other (a .frames) (a .depth - 1) d f noFrame (λ q. omega arith)) (st .unused d (omega arith) m)) x on
 
+  -- the top gone, and the one below past its command
   put-back : 1 < a .depth
       → Stack p made (a .depth - 1)
       (set (set (a .frames) (a .depth - 1) noFrame) (a .depth - 1 - 1) (moved p (level (set (a .frames) (a .depth - 1) noFrame) (a .depth - 1 - 1))))
@@ -95,6 +97,7 @@ module _ {p : Program} (ok : Accepted p) {made : ℕ} (a : Activity) (st : Stack
       above d h m (yes q) = rw (q, getD-set-same (a .frames) n noFrame noFrame (omega (arith, st .few)))
       above d h m (no q) = rw (getD-set-other (a .frames) n d noFrame noFrame q) (st .unused d (omega arith) m)
 
+  -- the stack after each motion
   stack-after : {b : Activity} → Motion p made (here p (top a) .command) a b → Sound (length p) (top a .body) (here p (top a)) → Stack p made (b .depth) (b .frames)
   stack-after {b} (stays o t d f) s = rw (d, f) st
   stack-after {b} (goes o t d f) s =
@@ -130,6 +133,7 @@ module _ {p : Program} (ok : Accepted p) {made : ℕ} (a : Activity) (st : Stack
 
 -- WHAT BECOMES OF THE ACTIVITY
 
+-- the clock names after each change
 pub held-after : {limit next : ℕ} {clocked : Bool} {a b : Activity} → Holding next clocked a b → ((k : ℕ) → k < 8 → hold b k .phase ≤ limit) → Held limit next (a .holds)
     → Held limit (clockedCount next clocked) (b .holds)
 held-after (same c h) low x = rw (c, h) x
@@ -149,6 +153,7 @@ held-after {limit} {next} (drops k c l h) low x =
     rw (c, h) (held-set k noHold (λ q. absurd (true-false false q refl)) (λ q. absurd (true-false false q refl)) (fits-none limit next) x)
 held-after (leaves c h) low x = rw (c, h) held-none
 
+-- the accumulator names after each change
 bounds-after : {next i : ℕ} {a b : Activity} {w : Write} → Naming next i a b w → ((n : ℕ) → n < 8 → bound a n ≤ next) → (n : ℕ) → n < 8 → bound b n ≤ writtenCount next w
 bounds-after (keeps w h) x n l = rw (w, h) (x n l)
 bounds-after {next} {i} {a} {b} (adds k o w h) x n l = rw (w, h) (go (stored (a .accumulators) k (next + 1) n 0))
@@ -216,18 +221,22 @@ owned-after s e z r (resets x v w m b) n l = rw w (λ h. absurd (omega arith), �
 
 -- THE STEP
 
+-- ASYNC names the body that it spawns
 async-names : {b m : ℕ} (o : Command) → o ≡ Async b m → (names o ≡ true) × (named o ≡ b)
 unfolding names named rowOf rowAt rows opcode operandsOf
 async-names o e = rw e (refl, refl)
 
 module _ (l : Limits) {p : Program} {s : State} (ok : Accepted p) (f : Facts (l .phase) p s) (z : Sized s) (i : ℕ) (t : Turn p s i) where
+  -- what holds of the one who steps
   x : ActivityFacts (l .phase) p (s .activities) (s .clocks) (s .accumulators) i (act s i)
   x = f .spawned i (t .spawned)
 
+  -- and the shape of its step
   sh : Shape p s i (act s i) (here p (top (act s i)) .command) (effect p s i)
   sh = step-shape ok f i (t .spawned) (t .unended)
 
   module _ (r : Room l p s (effect p s i)) where
+    -- what holds of it after the step
     self-facts : ActivityFacts (l .phase) p (after p s i .activities) (after p s i .clocks) (after p s i .accumulators) i (effect p s i .self)
     unfolding applied
     self-facts =
@@ -244,6 +253,7 @@ module _ (l : Limits) {p : Program} {s : State} (ok : Accepted p) (f : Facts (l 
           lower = λ q. rw (sh .spawner) (x .lower q);
         }
 
+    -- what holds of the child
     child-facts : (c : Activity) → effect p s i .spawned ≡ one c → ActivityFacts (l .phase) p (after p s i .activities) (after p s i .clocks) (after p s i .accumulators) (s .activities) c
     unfolding child
     child-facts c e =
@@ -261,6 +271,7 @@ module _ (l : Limits) {p : Program} {s : State} (ok : Accepted p) (f : Facts (l 
           lower = λ y. t .spawned;
         })
 
+    -- what holds of each who is spawned
     each-facts : (y : ℕ) → y < after p s i .activities → Now s i (effect p s i) y → ActivityFacts (l .phase) p (after p s i .activities) (after p s i .clocks) (after p s i .accumulators) y (act (after p s i) y)
     each-facts y h (self e q) = rw (q, e) self-facts
     each-facts y h (newborn c e n q) = rw (q, n) (child-facts c e)
@@ -268,6 +279,7 @@ module _ (l : Limits) {p : Program} {s : State} (ok : Accepted p) (f : Facts (l 
         rw q
         (facts-more (after p s i .activities) (after p s i .clocks) (after p s i .accumulators) (acts-after s i (effect p s i) .up) (clocks-after s i (effect p s i) .up) (accs-after s i (effect p s i) .up) (f .spawned y (n h)))
 
+    -- unused entries stay
     none-facts : (y : ℕ) → after p s i .activities ≤ y → y < 64 → Now s i (effect p s i) y → isNoActivity (act (after p s i) y) ≡ true
     unfolding applied
     none-facts y h m (self e q) = absurd (omega (arith, t .spawned, acts-after s i (effect p s i) .up))
@@ -277,6 +289,7 @@ module _ (l : Limits) {p : Program} {s : State} (ok : Accepted p) (f : Facts (l 
         born e h = rw e at h
     none-facts y h m (other e n q) = rw q (f .unspawned y (omega (arith, acts-after s i (effect p s i) .up)) m)
 
+    -- what holds of the state after the step
     pub step-facts : Facts (l .phase) p (after p s i)
     unfolding applied
     step-facts =
