@@ -20,3 +20,4 @@ pub mod Persist
 pub mod HistoryOpen
 pub mod History
 mod Cases
+mod HistoryCases

@@ -124,7 +124,7 @@ module _ (l : Limits) {p : Program} (ok : Accepted p) {s : State} (f : Facts (l 
           record { at = y; below = n h; passes = and-intro (chain (spawnerOf s) test x 64 y) _ (sym (chain-old l ok f z i t r test x y (n h)) ∙ q .0) (rw m at (q .1)) }
 
   -- who is behind, or the one who stepped, was behind before
-  behind-before : (c n : ℕ) → c < s .clocks → (y : ℕ) → y < after p s i .activities → behind (after p s i) c n y ≡ true → Witness (s .activities) (behind s c n)
+  pub behind-before : (c n : ℕ) → c < s .clocks → (y : ℕ) → y < after p s i .activities → behind (after p s i) c n y ≡ true → Witness (s .activities) (behind s c n)
   unfolding behind child
   behind-before c n m y h b =
       let w = someBelow-witness 8 (λ k. isBehind c n (hold (act (after p s i) y) k)) b in
@@ -146,24 +146,22 @@ module _ (l : Limits) {p : Program} (ok : Accepted p) {s : State} (f : Facts (l 
 
   -- another who can step still can
   module _ (x : ℕ) (d : x ≡ i → ⊥) (u : Turn p s x) where
-    a : Activity
-    a = act s x
-
+    -- what holds of it
     facts-x : ActivityFacts (l .phase) p (s .activities) (s .clocks) (s .accumulators) x (act s x)
     facts-x = f .spawned x (u .spawned)
 
-    o : Command
-    o = here p (top (act s x)) .command
-
+    -- its record is untouched
     record-old : act (after p s i) x ≡ act s x
     record-old = act-old s i (effect p s i) x (u .spawned) d
 
+    -- it meets the same fault or none
     same-fault : faultFor p (envOf (after p s i)) x (act s x) (here p (top (act s x)) .command) ≡ faultFor p (envOf s) x (act s x) (here p (top (act s x)) .command)
     same-fault =
         fault-same p s (after p s i) x (act s x)
         (λ n h e. owner-old s (effect p s i) (shape-of .naming) (numberUnder (act s x) n) (omega (arith, facts-x .bounds n h, eqb-false (bound (act s x) n) 0 e)))
         (here p (top (act s x)) .command) (at-sound ok f x (u .spawned) (u .unended) .ranged)
 
+    -- it waits for nobody, if it did not before
     no-wait : waitsAt p s x (act s x) (here p (top (act s x)) .command) ≡ false
         → waitsAt p (after p s i) x (act s x) (here p (top (act s x)) .command) ≡ false
     unfolding waitsAt unendedInside unendedBelow inside descends behindOf
@@ -186,6 +184,7 @@ module _ (l : Limits) {p : Program} (ok : Accepted p) {s : State} (f : Facts (l 
                   (and-intro (holds (act s x) (w .at)) _ (q .0) (v .passes));
             }
 
+    -- so it does not wait
     still-moves : waits p (after p s i) x ≡ false
     unfolding waits fault at
     still-moves = rw (record-old, same-fault) (go (decide (eqb (faultFor p (envOf s) x (act s x) (here p (top (act s x)) .command)) 0)) (u .moves))
@@ -198,6 +197,7 @@ module _ (l : Limits) {p : Program} (ok : Accepted p) {s : State} (f : Facts (l 
         go (inl e) w = rw (e, no-wait (and-false (eqb n 0) _ w e))
         go (inr e) w = rw e
 
+    -- and can step
     pub turn-kept : Turn p (after p s i) x
     turn-kept = record { spawned = omega (arith, u .spawned, acts-after s i (effect p s i) .up); unended = rw record-old (u .unended); moves = still-moves }
 
