@@ -223,7 +223,7 @@ module _ (l : Limits) (t : List ℕ) (ok : Accepted (programOf t)) where
           (insidesFrom l t (step l t s i .state) (cond (isAccepted (step l t s i .answer)) (insidesAfter (programOf t) s i h) h) order)
       go ih (unfits n q e d) = rw d (ih s h x)
       go ih (refuses n q e d) = rw d (ih s h x)
-      go ih (overflows q d) = rw d (ih s h x)
+      go ih (overflows q e d) = rw d (ih s h x)
       go ih (takes a w r e d) =
           let u = turn p s i r in
           let m = room l p s (effect p s i) e in

@@ -19,7 +19,7 @@ use Rattle.rules.specs.Faults.{bit}
 use Rattle.rules.specs.Effects.{lent}
 use Rattle.rules.proofs.Tests.{and-true, and-intro, or-true, or-left, or-right, true-false}
 use Rattle.rules.proofs.Lists.{Stored, new, old, stored}
-use Rattle.rules.proofs.WellFormedHolds.{named, named-none, named-map, quiesced-held, revived-held, Lent, lends, lent-held}
+use Rattle.rules.proofs.WellFormedHolds.{under, under-none, under-map, quiesced-held, revived-held, Lent, lends, lent-held}
 use Rattle.rules.proofs.WellFormedShape.{Holding, same, quiesces, passes, clocks, resumes, drops, leaves}
 
 -- what the test says
@@ -90,15 +90,15 @@ module _ (c p : ℕ) where
 
   -- all changed so
   behind-map : (f : Hold → Hold) → f noHold ≡ noHold → ((h : Hold) → isBehind c p (f h) ≡ true → isBehind c p h ≡ true) → (hs : List Hold) (k : ℕ)
-      → isBehind c p (named (map f hs) k) ≡ true → isBehind c p (named hs k) ≡ true
-  behind-map f e g hs k b = g (named hs k) (rw (named-map f e hs k) at b)
+      → isBehind c p (under (map f hs) k) ≡ true → isBehind c p (under hs k) ≡ true
+  behind-map f e g hs k b = g (under hs k) (rw (under-map f e hs k) at b)
 
   -- one changed so
-  behind-set : (hs : List Hold) (n : ℕ) (h : Hold) → (isBehind c p h ≡ true → isBehind c p (named hs n) ≡ true) → (k : ℕ)
-      → isBehind c p (named (set hs n h) k) ≡ true → isBehind c p (named hs k) ≡ true
+  behind-set : (hs : List Hold) (n : ℕ) (h : Hold) → (isBehind c p h ≡ true → isBehind c p (under hs n) ≡ true) → (k : ℕ)
+      → isBehind c p (under (set hs n h) k) ≡ true → isBehind c p (under hs k) ≡ true
   behind-set hs n h g k b = go (stored hs n h k noHold)
     where
-      go : Stored hs n h k noHold → isBehind c p (named hs k) ≡ true
+      go : Stored hs n h k noHold → isBehind c p (under hs k) ≡ true
       go (new e q) = rw e (g (rw q at b))
       go (old q) = rw q at b
 
@@ -111,20 +111,20 @@ module _ (c p : ℕ) where
       behind-set (a .holds) n (record { phase = 0; clock = next; registration = Live }) (λ b. absurd (omega (arith, behind-out c p _ b .clock))) k (rw h at e)
   self-before {a = a} (resumes n t m h) l k e = behind-set (a .holds) n (quiesce (hold a n)) (behind-quiesce (hold a n)) k (rw h at e)
   self-before {a = a} (drops n t m h) l k e = behind-set (a .holds) n noHold (behind-none (hold a n)) k (rw h at e)
-  self-before {a = a} {b} (leaves t h) l k e = behind-none (hold a k) (rw (named-none 8 k) at (ap (λ hs. isBehind c p (named hs k)) (sym h) ∙ e))
+  self-before {a = a} {b} (leaves t h) l k e = behind-none (hold a k) (rw (under-none 8 k) at (ap (λ hs. isBehind c p (under hs k)) (sym h) ∙ e))
 
   -- who was spawned
-  pub child-before : (m : ℕ) (hs : List Hold) (k : ℕ) → (bit m k ≡ true → isLive (named hs k .registration) ≡ true) → isBehind c p (named (lent m 0 hs) k) ≡ true
-      → isBehind c p (named hs k) ≡ true
-  child-before m hs k live e = go (named (lent m 0 hs) k) e (lent-held m hs k)
+  pub child-before : (m : ℕ) (hs : List Hold) (k : ℕ) → (bit m k ≡ true → isLive (under hs k .registration) ≡ true) → isBehind c p (under (lent m 0 hs) k) ≡ true
+      → isBehind c p (under hs k) ≡ true
+  child-before m hs k live e = go (under (lent m 0 hs) k) e (lent-held m hs k)
     where
       live-held : (r : Registration) → isLive r ≡ true → isHeld r ≡ true
       live-held Free e = e
       live-held Live e = refl
       live-held Quiesced e = refl
 
-      go : (g : Hold) → isBehind c p g ≡ true → Lent m hs k k g → isBehind c p (named hs k) ≡ true
+      go : (g : Hold) → isBehind c p g ≡ true → Lent m hs k k g → isBehind c p (under hs k) ≡ true
       go g e (lends b q) =
-          no-more (named hs k) (record { phase = named hs k .phase; clock = named hs k .clock; registration = Live }) (λ t. live-held (named hs k .registration) (live b)) refl
+          no-more (under hs k) (record { phase = under hs k .phase; clock = under hs k .clock; registration = Live }) (λ t. live-held (under hs k .registration) (live b)) refl
           (λ t. inr (refl, λ t. live b)) (rw q at e)
-      go g e (Lent.keeps q) = behind-none (named hs k) (rw q at e)
+      go g e (Lent.keeps q) = behind-none (under hs k) (rw q at e)

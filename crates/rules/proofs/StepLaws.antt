@@ -1,11 +1,11 @@
--- What a call of the step does, as one of two cases: it is turned down and returns the state it was handed, or it is taken. So an accepted step raises the
--- steps by one, and the ready set tells of each activity whether the step turns it down with 14 to 16.
+-- What a call of the step does, as one of four cases: it is turned down with 1 to 13, with 14 to 16 or with 17, and returns the state it was handed, or it is taken.
+-- So an accepted step raises the steps by one, and the ready set tells of each activity whether the step turns it down with 14 to 16.
 use Prim.Native.Nat.{ℕ, _+_, _≤_, _<_}
 use native.Mathlib.Omega.{arith}
 use native.Mathlib.Decide.{decLt}
 use mathlib.Core.List.{List}
 use mathlib.Core.Bool.{Bool, true, false, cond}
-use mathlib.Core.Path.{_≡_, refl, sym, ap, _∙_, subst}
+use mathlib.Core.Path.{_≡_, refl, sym, ap, _∙_}
 use mathlib.Core.Logic.{_⊎_, inl, inr}
 use lib.Dec.{ltb, eqb}
 use borrow.Author.Tests.{le-ltb, eqb-true, eqb-false, ne-eqb}
@@ -35,11 +35,11 @@ module _ (l : Limits) (t : List ℕ) (s : State) (i : ℕ) where
   abbrev p : Program
   p = programOf t
 
-  -- an accepted table and a well-formed state are turned down with 14 to 17 alone
+  -- What the call does.
   pub data Outcome : Type 0 where
     unfits : (n : ℕ) → unfit l (numberOf (l .work) t) p s ≡ n → (n ≡ 0 → ⊥) → step l t s i ≡ stepped (Refused n) s → Outcome
     refuses : (n : ℕ) → refusal p s i ≡ n → (n ≡ 0 → ⊥) → step l t s i ≡ stepped (Refused n) s → Outcome
-    overflows : refusal p s i ≡ 0 → step l t s i ≡ stepped (Refused 17) s → Outcome
+    overflows : refusal p s i ≡ 0 → exceeds l p s (effect p s i) ≡ true → step l t s i ≡ stepped (Refused 17) s → Outcome
     takes : numberOf (l .work) t ≡ 0 → wellFormed (l .phase) p s ≡ true → refusal p s i ≡ 0 → exceeds l p s (effect p s i) ≡ false
         → step l t s i ≡ stepped (Accepted (effect p s i .self .status)) (applied s i (effect p s i)) → Outcome
 
@@ -66,7 +66,7 @@ module _ (l : Limits) (t : List ℕ) (s : State) (i : ℕ) where
           → Outcome
       go false a y b z c e = unfits _ refl (eqb-false _ 0 a) e
       go true a false b z c e = refuses _ refl (eqb-false _ 0 b) e
-      go true a true b true c e = overflows (eqb-true _ 0 b) e
+      go true a true b true c e = overflows (eqb-true _ 0 b) c e
       go true a true b false c e = let q = fit-parts (eqb-true _ 0 a) in takes (q .0) (q .1) (eqb-true _ 0 b) c e
 
   -- a refused step returns the state it was handed
@@ -76,7 +76,7 @@ module _ (l : Limits) (t : List ℕ) (s : State) (i : ℕ) where
       go : Outcome → step l t s i .state ≡ s
       go (unfits m q h d) = ap (λ x. x .state) d
       go (refuses m q h d) = ap (λ x. x .state) d
-      go (overflows q d) = ap (λ x. x .state) d
+      go (overflows q x d) = ap (λ x. x .state) d
       go (takes a b c x d) =
           let g : Accepted (effect p s i .self .status) ≡ Refused n = sym (ap (λ x. x .answer) d) ∙ e in
           absurd (true-false true refl (ap isAccepted g))
@@ -89,7 +89,7 @@ module _ (l : Limits) (t : List ℕ) (s : State) (i : ℕ) where
       go : Outcome → step l t s i .state .steps ≡ s .steps + 1
       go (unfits m q h d) = absurd (true-false false (rw d at e) refl)
       go (refuses m q h d) = absurd (true-false false (rw d at e) refl)
-      go (overflows q d) = absurd (true-false false (rw d at e) refl)
+      go (overflows q x d) = absurd (true-false false (rw d at e) refl)
       go (takes a b c x d) = ap (λ x. x .state .steps) d
 
 -- Not 14 to 16: a step or a fault, or 17.
@@ -102,16 +102,16 @@ refusal-past : (p : Program) (s : State) (i : ℕ) → s .activities ≤ i → r
 unfolding refusal
 refusal-past p s i h = rw (le-ltb i (s .activities) h)
 
--- numbers 14 to 16 are not 17
-refusal-not17 : (p : Program) (s : State) (i : ℕ) → eqb (refusal p s i) 17 ≡ false
+-- the number is one of 14 to 16
+pub refusal-number : (p : Program) (s : State) (i : ℕ) → (refusal p s i ≡ 0 → ⊥) → (14 ≤ refusal p s i) × (refusal p s i ≤ 16)
 unfolding refusal
-refusal-not17 p s i = go (ltb i (s .activities)) (ended s i) (waits p s i)
+refusal-number p s i = go (ltb i (s .activities)) (ended s i) (waits p s i)
   where
-    go : (x y z : Bool) → eqb (cond x (cond y 15 (cond z 16 0)) 14) 17 ≡ false
-    go true true z = refl
-    go true false true = refl
-    go true false false = refl
-    go false y z = refl
+    go : (x y z : Bool) → (_≡_ {A = ℕ} (cond x (cond y 15 (cond z 16 0)) 14) 0 → ⊥) → (14 ≤ cond x (cond y 15 (cond z 16 0)) 14) × (cond x (cond y 15 (cond z 16 0)) 14 ≤ 16)
+    go true true z h = (omega arith, omega arith)
+    go true false true h = (omega arith, omega arith)
+    go true false false h = absurd (h refl)
+    go false y z h = (omega arith, omega arith)
 
 -- step and ready set agree on 14 to 16
 module _ (l : Limits) (t : List ℕ) (s : State) (number : numberOf (l .work) t ≡ 0) (formed : wellFormed (l .phase) (programOf t) s ≡ true) where
@@ -134,6 +134,8 @@ module _ (l : Limits) (t : List ℕ) (s : State) (number : numberOf (l .work) t 
     where
       go : Outcome l t s i → eqb (refusal (programOf t) s i) 0 ≡ mayGo (step l t s i .answer)
       go (unfits n q h d) = absurd (h (sym q ∙ fit l t s number formed))
-      go (refuses n q h d) = rw (d, q, ne-eqb n 0 h) (sym (subst (λ k. eqb k 17 ≡ false) q (refusal-not17 (programOf t) s i)))
-      go (overflows q d) = rw (d, q)
+      go (refuses n q h d) =
+          let r = refusal-number (programOf t) s i (λ e. h (sym q ∙ e)) in
+          rw (d, q, ne-eqb n 0 h, ne-eqb n 17 (λ e. omega arith))
+      go (overflows q x d) = rw (d, q)
       go (takes a b c x d) = rw (d, c)

@@ -24,8 +24,8 @@ use Rattle.rules.proofs.Search.{allBelow-at, allBelow-intro}
 use Rattle.rules.proofs.Lists.{Stored, new, old, stored}
 
 -- The hold under a name.
-abbrev pub named : List Hold → ℕ → Hold
-named hs k = getD hs k noHold
+abbrev pub under : List Hold → ℕ → Hold
+under hs k = getD hs k noHold
 
 -- ONE HOLD
 
@@ -99,8 +99,8 @@ revived-held Quiesced = refl
 
 -- What the holds of an activity are like.
 pub record Held (limit made : ℕ) (hs : List Hold) : Type 0 where
-  pub fits : (k : ℕ) → k < 8 → Fits limit made (named hs k)
-  pub distinct : (j k : ℕ) → j < k → k < 8 → isHeld (named hs j .registration) ≡ true → isHeld (named hs k .registration) ≡ true → named hs j .clock ≡ named hs k .clock → ⊥
+  pub fits : (k : ℕ) → k < 8 → Fits limit made (under hs k)
+  pub distinct : (j k : ℕ) → j < k → k < 8 → isHeld (under hs j .registration) ≡ true → isHeld (under hs k .registration) ≡ true → under hs j .clock ≡ under hs k .clock → ⊥
 
 -- what their tests say
 pub held : (limit made : ℕ) (a : Activity) → allBelow 8 (holdFits limit made a) ≡ true → namesFit a ≡ true → Held limit made (a .holds)
@@ -136,8 +136,8 @@ pub held-more : {limit made : ℕ} {hs : List Hold} (made′ : ℕ) → made ≤
 held-more made′ l x = record { fits = λ k m. fits-more made′ l (x .fits k m); distinct = x .distinct }
 
 -- holds that are like others: of the same clocks, and none is held that was not
-pub held-like : {limit made : ℕ} {hs : List Hold} (gs : List Hold) → ((k : ℕ) → k < 8 → isHeld (named gs k .registration) ≡ true → isHeld (named hs k .registration) ≡ true)
-    → ((k : ℕ) → k < 8 → isHeld (named gs k .registration) ≡ true → named gs k .clock ≡ named hs k .clock) → ((k : ℕ) → k < 8 → Fits limit made (named gs k)) → Held limit made hs → Held limit made gs
+pub held-like : {limit made : ℕ} {hs : List Hold} (gs : List Hold) → ((k : ℕ) → k < 8 → isHeld (under gs k .registration) ≡ true → isHeld (under hs k .registration) ≡ true)
+    → ((k : ℕ) → k < 8 → isHeld (under gs k .registration) ≡ true → under gs k .clock ≡ under hs k .clock) → ((k : ℕ) → k < 8 → Fits limit made (under gs k)) → Held limit made hs → Held limit made gs
 held-like gs same clock fits x =
     record {
       fits = fits;
@@ -145,44 +145,44 @@ held-like gs same clock fits x =
     }
 
 -- where no clock is held, no name has one
-pub named-none : (n k : ℕ) → named (replicate n noHold) k ≡ noHold
-named-none zero k = refl
-named-none (suc n) zero = refl
-named-none (suc n) (suc k) = named-none n k
+pub under-none : (n k : ℕ) → under (replicate n noHold) k ≡ noHold
+under-none zero k = refl
+under-none (suc n) zero = refl
+under-none (suc n) (suc k) = under-none n k
 
 -- the hold under a name after all were changed
-pub named-map : (f : Hold → Hold) → f noHold ≡ noHold → (hs : List Hold) (k : ℕ) → named (map f hs) k ≡ f (named hs k)
-named-map f e hs k = ap (λ d. getD (map f hs) k d) (sym e) ∙ List·getD-map f hs k noHold
+pub under-map : (f : Hold → Hold) → f noHold ≡ noHold → (hs : List Hold) (k : ℕ) → under (map f hs) k ≡ f (under hs k)
+under-map f e hs k = ap (λ d. getD (map f hs) k d) (sym e) ∙ List·getD-map f hs k noHold
 
 -- no clock is held
 pub held-none : {limit made : ℕ} → Held limit made noHolds
 held-none {limit} {made} =
-    record { fits = λ k l. rw (named-none 8 k) (fits-none limit made); distinct = λ j k l m p q c. true-false false (rw (named-none 8 j) at p) refl }
+    record { fits = λ k l. rw (under-none 8 k) (fits-none limit made); distinct = λ j k l m p q c. true-false false (rw (under-none 8 j) at p) refl }
 
 -- all changed alike
 pub held-map : {limit made : ℕ} {hs : List Hold} (f : Hold → Hold) → f noHold ≡ noHold → ((h : Hold) → isHeld (f h .registration) ≡ isHeld (h .registration)) → ((h : Hold) → f h .clock ≡ h .clock)
-    → ((k : ℕ) → k < 8 → isHeld (named hs k .registration) ≡ true → f (named hs k) .phase ≤ limit) → Held limit made hs → Held limit made (map f hs)
+    → ((k : ℕ) → k < 8 → isHeld (under hs k .registration) ≡ true → f (under hs k) .phase ≤ limit) → Held limit made hs → Held limit made (map f hs)
 held-map {limit} {made} {hs} f e same clock low x =
-    held-like (map f hs) (λ k l q. sym (same (named hs k)) ∙ rw (named-map f e hs k) at q) (λ k l q. rw (named-map f e hs k) (clock (named hs k)))
-    (λ k l. rw (named-map f e hs k)
-    (fits-like (f (named hs k)) (λ q. sym (same (named hs k)) ∙ q) (λ q. low k l (sym (same (named hs k)) ∙ q)) (clock (named hs k))
-    (λ q. ap f (x .fits k l .free (sym (same (named hs k)) ∙ q)) ∙ e) (x .fits k l))) x
+    held-like (map f hs) (λ k l q. sym (same (under hs k)) ∙ rw (under-map f e hs k) at q) (λ k l q. rw (under-map f e hs k) (clock (under hs k)))
+    (λ k l. rw (under-map f e hs k)
+    (fits-like (f (under hs k)) (λ q. sym (same (under hs k)) ∙ q) (λ q. low k l (sym (same (under hs k)) ∙ q)) (clock (under hs k))
+    (λ q. ap f (x .fits k l .free (sym (same (under hs k)) ∙ q)) ∙ e) (x .fits k l))) x
 
 -- one set, to a hold of the same clock or to none
-pub held-set : {limit made : ℕ} {hs : List Hold} (n : ℕ) (h : Hold) → (isHeld (h .registration) ≡ true → isHeld (named hs n .registration) ≡ true)
-    → (isHeld (h .registration) ≡ true → h .clock ≡ named hs n .clock) → Fits limit made h → Held limit made hs → Held limit made (set hs n h)
+pub held-set : {limit made : ℕ} {hs : List Hold} (n : ℕ) (h : Hold) → (isHeld (h .registration) ≡ true → isHeld (under hs n .registration) ≡ true)
+    → (isHeld (h .registration) ≡ true → h .clock ≡ under hs n .clock) → Fits limit made h → Held limit made hs → Held limit made (set hs n h)
 held-set {limit} {made} {hs} n h same clock fits x =
     held-like (set hs n h) (λ k l. go₁ k (stored hs n h k noHold)) (λ k l. go₂ k (stored hs n h k noHold)) (λ k l. go₃ k l (stored hs n h k noHold)) x
   where
-    go₁ : (k : ℕ) → Stored hs n h k noHold → isHeld (named (set hs n h) k .registration) ≡ true → isHeld (named hs k .registration) ≡ true
-    go₁ k (new e p) q = subst (λ k. isHeld (named hs k .registration) ≡ true) (sym e) (same (rw p at q))
+    go₁ : (k : ℕ) → Stored hs n h k noHold → isHeld (under (set hs n h) k .registration) ≡ true → isHeld (under hs k .registration) ≡ true
+    go₁ k (new e p) q = subst (λ k. isHeld (under hs k .registration) ≡ true) (sym e) (same (rw p at q))
     go₁ k (old p) q = rw p at q
 
-    go₂ : (k : ℕ) → Stored hs n h k noHold → isHeld (named (set hs n h) k .registration) ≡ true → named (set hs n h) k .clock ≡ named hs k .clock
-    go₂ k (new e p) q = rw p (clock (rw p at q) ∙ ap (λ k. named hs k .clock) (sym e))
+    go₂ : (k : ℕ) → Stored hs n h k noHold → isHeld (under (set hs n h) k .registration) ≡ true → under (set hs n h) k .clock ≡ under hs k .clock
+    go₂ k (new e p) q = rw p (clock (rw p at q) ∙ ap (λ k. under hs k .clock) (sym e))
     go₂ k (old p) q = rw p
 
-    go₃ : (k : ℕ) → k < 8 → Stored hs n h k noHold → Fits limit made (named (set hs n h) k)
+    go₃ : (k : ℕ) → k < 8 → Stored hs n h k noHold → Fits limit made (under (set hs n h) k)
     go₃ k l (new e p) = rw p fits
     go₃ k l (old p) = rw p (x .fits k l)
 
@@ -194,26 +194,26 @@ held-new {limit} {made} {hs} n x =
     h : Hold
     h = record { phase = 0; clock = made; registration = Live }
 
-    go : (k : ℕ) → k < 8 → Stored hs n h k noHold → Fits limit (made + 1) (named (set hs n h) k)
+    go : (k : ℕ) → k < 8 → Stored hs n h k noHold → Fits limit (made + 1) (under (set hs n h) k)
     go k l (new e p) = rw p (record { low = λ q. omega arith; known = λ q. omega arith; free = λ q. absurd (true-false true refl q) })
     go k l (old p) = rw p (fits-more (made + 1) (omega arith) (x .fits k l))
 
-    apart : (j k : ℕ) → j < k → k < 8 → Stored hs n h j noHold → Stored hs n h k noHold → isHeld (named (set hs n h) j .registration) ≡ true → isHeld (named (set hs n h) k .registration) ≡ true
-        → named (set hs n h) j .clock ≡ named (set hs n h) k .clock → ⊥
+    apart : (j k : ℕ) → j < k → k < 8 → Stored hs n h j noHold → Stored hs n h k noHold → isHeld (under (set hs n h) j .registration) ≡ true → isHeld (under (set hs n h) k .registration) ≡ true
+        → under (set hs n h) j .clock ≡ under (set hs n h) k .clock → ⊥
     apart j k l m (new e p) (new e′ p′) q q′ c = omega arith
-    apart j k l m (new e p) (old p′) q q′ c = let z = x .fits k m .known (rw p′ at q′) in let y : made ≡ named hs k .clock = rw (p, p′) at c in omega arith
-    apart j k l m (old p) (new e′ p′) q q′ c = let z = x .fits j (omega arith) .known (rw p at q) in let y : named hs j .clock ≡ made = rw (p, p′) at c in omega arith
+    apart j k l m (new e p) (old p′) q q′ c = let z = x .fits k m .known (rw p′ at q′) in let y : made ≡ under hs k .clock = rw (p, p′) at c in omega arith
+    apart j k l m (old p) (new e′ p′) q q′ c = let z = x .fits j (omega arith) .known (rw p at q) in let y : under hs j .clock ≡ made = rw (p, p′) at c in omega arith
     apart j k l m (old p) (old p′) q q′ c = x .distinct j k l m (rw p at q) (rw p′ at q′) (rw (p, p′) at c)
 
 -- WHAT IS LENT
 
 -- What a child gets under name k, whose bit of the mask is at `at`: its spawner's clock, live, or nothing.
 pub data Lent (m : ℕ) (hs : List Hold) (at k : ℕ) (h : Hold) : Type 0 where
-  lends : bit m at ≡ true → h ≡ record { phase = named hs k .phase; clock = named hs k .clock; registration = Live } → Lent m hs at k h
+  lends : bit m at ≡ true → h ≡ record { phase = under hs k .phase; clock = under hs k .clock; registration = Live } → Lent m hs at k h
   keeps : h ≡ noHold → Lent m hs at k h
 
 -- each name is one of the two, where the first is name j
-pub lent-at : (m j : ℕ) (hs : List Hold) (k : ℕ) → Lent m hs (j + k) k (named (lent m j hs) k)
+pub lent-at : (m j : ℕ) (hs : List Hold) (k : ℕ) → Lent m hs (j + k) k (under (lent m j hs) k)
 unfolding lent
 lent-at m j [] k = keeps refl
 lent-at m j (x ∷ hs) zero = let z : j + 0 ≡ j = omega arith in rw z (go (bit m j) refl)
@@ -223,25 +223,25 @@ lent-at m j (x ∷ hs) zero = let z : j + 0 ≡ j = omega arith in rw z (go (bit
     go false e = keeps refl
 lent-at m j (x ∷ hs) (suc k) = let z : j + suc k ≡ suc j + k = omega arith in rw z (go (lent-at m (suc j) hs k))
   where
-    go : Lent m hs (suc j + k) k (named (lent m (suc j) hs) k) → Lent m (x ∷ hs) (suc j + k) (suc k) (named (lent m (suc j) hs) k)
+    go : Lent m hs (suc j + k) k (under (lent m (suc j) hs) k) → Lent m (x ∷ hs) (suc j + k) (suc k) (under (lent m (suc j) hs) k)
     go (lends e p) = lends e p
     go (keeps p) = keeps p
 
 -- the same from name 0 on
-pub lent-held : (m : ℕ) (hs : List Hold) (k : ℕ) → Lent m hs k k (named (lent m 0 hs) k)
+pub lent-held : (m : ℕ) (hs : List Hold) (k : ℕ) → Lent m hs k k (under (lent m 0 hs) k)
 lent-held m hs k = let z : 0 + k ≡ k = omega arith in rw z at (lent-at m 0 hs k)
 
 -- what is lent is held
-pub held-lent : {limit made : ℕ} {hs : List Hold} (m : ℕ) → ((k : ℕ) → k < 8 → bit m k ≡ true → isHeld (named hs k .registration) ≡ true) → Held limit made hs → Held limit made (lent m 0 hs)
+pub held-lent : {limit made : ℕ} {hs : List Hold} (m : ℕ) → ((k : ℕ) → k < 8 → bit m k ≡ true → isHeld (under hs k .registration) ≡ true) → Held limit made hs → Held limit made (lent m 0 hs)
 held-lent {limit} {made} {hs} m h x =
-    held-like (lent m 0 hs) (λ k l q. go₁ k l (named (lent m 0 hs) k) q (lent-held m hs k)) (λ k l q. go₂ k (named (lent m 0 hs) k) q (lent-held m hs k))
-    (λ k l. go₃ k l (named (lent m 0 hs) k) (lent-held m hs k)) x
+    held-like (lent m 0 hs) (λ k l q. go₁ k l (under (lent m 0 hs) k) q (lent-held m hs k)) (λ k l q. go₂ k (under (lent m 0 hs) k) q (lent-held m hs k))
+    (λ k l. go₃ k l (under (lent m 0 hs) k) (lent-held m hs k)) x
   where
-    go₁ : (k : ℕ) → k < 8 → (g : Hold) → isHeld (g .registration) ≡ true → Lent m hs k k g → isHeld (named hs k .registration) ≡ true
+    go₁ : (k : ℕ) → k < 8 → (g : Hold) → isHeld (g .registration) ≡ true → Lent m hs k k g → isHeld (under hs k .registration) ≡ true
     go₁ k l g q (lends b e) = h k l b
     go₁ k l g q (keeps e) = absurd (true-false false (rw e at q) refl)
 
-    go₂ : (k : ℕ) (g : Hold) → isHeld (g .registration) ≡ true → Lent m hs k k g → g .clock ≡ named hs k .clock
+    go₂ : (k : ℕ) (g : Hold) → isHeld (g .registration) ≡ true → Lent m hs k k g → g .clock ≡ under hs k .clock
     go₂ k g q (lends b e) = rw e
     go₂ k g q (keeps e) = absurd (true-false false (rw e at q) refl)
 

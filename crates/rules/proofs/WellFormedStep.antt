@@ -31,7 +31,7 @@ use Rattle.rules.proofs.Lists.{Stored, new, old, stored}
 use Rattle.rules.proofs.Sized.{Sized}
 use Rattle.rules.proofs.WellFormedPlaces.{moved, placed-body, placed-next, placed-begun}
 use Rattle.rules.proofs.WellFormedStack.{ran-going, ran-names, level, Stacked, Stack, On, stack-put, stack-room, stack-more, on-moved, on-again}
-use Rattle.rules.proofs.WellFormedHolds.{Held, named-none, held-none, held-map, held-set, held-new, held-lent, held-more, fits-none, fits-like, quiesced-held, revived-held, named-map}
+use Rattle.rules.proofs.WellFormedHolds.{Held, under-none, held-none, held-map, held-set, held-new, held-lent, held-more, fits-none, fits-like, quiesced-held, revived-held, under-map}
 use Rattle.rules.proofs.WellFormedFacts.{ActivityFacts, Facts, facts, formed, facts-more}
 use Rattle.rules.proofs.WellFormedShape.{Motion, stays, goes, begins, repeats, returns, halts, Holding, same, quiesces, passes, clocks, resumes, drops, leaves, Naming, keeps, adds, offers, resets, born, Shape}
 use Rattle.rules.proofs.WellFormedApply.{after, Turn, turn, Room, room, at-sound, step-shape, Now, self, newborn, other, now, acts-after, clocks-after, accs-after, owner-old}
@@ -142,7 +142,7 @@ held-after {limit} {next} {clocked} {a} {b} (quiesces c h) low x =
 held-after {limit} {next} {clocked} {a} {b} (passes c h) low x =
     rw (c, h)
     (held-map pass refl (λ g. revived-held (g .registration)) (λ g. refl)
-    (λ k l q. subst (λ g. g .phase ≤ limit) (ap (λ hs. getD hs k noHold) h ∙ named-map pass refl (a .holds) k) (low k l)) x)
+    (λ k l q. subst (λ g. g .phase ≤ limit) (ap (λ hs. getD hs k noHold) h ∙ under-map pass refl (a .holds) k) (low k l)) x)
 held-after (clocks k c l h) low x = rw (c, h) (held-new k x)
 held-after {limit} {next} {clocked} {a} {b} (resumes k c l h) low x =
     let e = quiesced-held (hold a k .registration) in
@@ -171,7 +171,7 @@ gone-after (goes o t d f) e = absurd (true-false false (rw t at e) refl)
 gone-after (begins g z r q t d f) e = absurd (true-false false (rw t at e) refl)
 gone-after (repeats o l r t d f) e = absurd (true-false false (rw t at e) refl)
 gone-after (returns o l t d f) e = absurd (true-false false (rw t at e) refl)
-gone-after {b = b} (halts t d f h) e = (d, λ k l. ap (λ hs. isHeld (getD hs k noHold .registration)) h ∙ ap (λ g. isHeld (g .registration)) (named-none 8 k))
+gone-after {b = b} (halts t d f h) e = (d, λ k l. ap (λ hs. isHeld (getD hs k noHold .registration)) h ∙ ap (λ g. isHeld (g .registration)) (under-none 8 k))
 
 -- another has a body
 bodied-after : {p : Program} {made : ℕ} {o : Command} {a b : Activity} → Motion p made o a b → 0 < a .depth → isEnded (b .status) ≡ false → 0 < b .depth
