@@ -8,6 +8,7 @@ use Rattle.program.specs.Command.{rowOf, operandsOf, width, names, named
 use Rattle.program.specs.Reading.{allInside}
 use Rattle.program.specs.Bodies.{Located, Body, Program, headOf}
 use Rattle.program.specs.Scan.{bytes}
+use Rattle.program.specs.Count.{workOf, activitiesOf, clocksOf, accumulatorsOf}
 use Rattle.program.specs.declared.command.Command.{Command}
 
 -- Each operand of a command is inside its range.
@@ -42,3 +43,10 @@ pub record Accepted (p : Program) : Type 0 where
   pub few : length p ≤ 16
   pub shaped : (b : ℕ) → b < length p → Shaped (length p) b (getD p b [])
   pub first : (b : ℕ) → b < length p → headOf (getD p b []) .offset ≡ 0
+
+-- What a program with none of the numbers 9 to 12 comes to.
+pub record Counted (limit : ℕ) (p : Program) : Type 0 where
+  pub activities : activitiesOf p ≤ 64
+  pub clocks : clocksOf p ≤ 16
+  pub accumulators : accumulatorsOf p ≤ 16
+  pub work : workOf p ≤ limit

@@ -3,6 +3,22 @@ pub mod Search
 pub mod Sums
 pub mod Lists
 pub mod Sized
+pub mod WellFormedPlaces
+pub mod WellFormedStack
+pub mod WellFormedHolds
+pub mod WellFormedFacts
+pub mod WellFormedShape
+pub mod WellFormedApply
+pub mod WellFormedStep
+pub mod WellFormedSizes
+pub mod WellFormedStart
+pub mod Bits
+pub mod StepLaws
+pub mod PersistBehind
+pub mod PersistTree
+pub mod Persist
+pub mod HistoryOpen
+pub mod History
 pub mod Shapes
 pub mod ReadyBits
 pub mod Applied
@@ -23,3 +39,4 @@ pub mod Calls
 pub mod Demand3
 pub mod Runs
 mod Cases
+mod HistoryCases

@@ -8,5 +8,6 @@ pub mod Effects
 pub mod WellFormed
 pub mod Steps
 pub mod Runs
+pub mod History
 pub mod Demand3
 pub mod Cases

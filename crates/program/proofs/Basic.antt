@@ -1,0 +1,78 @@
+-- Small laws of tests and lists that know nothing of tables.
+use Prim.Native.Nat.{ℕ, zero, suc, _-_, _≤_, _<_}
+use native.Mathlib.Omega.{arith}
+use native.Mathlib.Decide.{ℕ-discrete}
+use mathlib.Core.List.{List, [], _∷_, _++_}
+use mathlib.Core.Bool.{Bool, true, false, cond, _||_, _&&_, not}
+use mathlib.Core.Path.{_≡_, refl, sym, ap}
+use lib.ListN.{getD, drop, replicate}
+use lib.Dec.{eqb}
+use borrow.Author.Tests.{ne-eqb}
+
+-- TESTS
+
+-- Two different numbers are not equal.
+pub apart : _≡_ {A = ℕ} 0 1 → ⊥
+apart z = omega arith
+
+-- A test that passes does not fail.
+pub true-false : {a : Bool} → a ≡ true → a ≡ false → ⊥
+true-false p q = apart (cc)
+
+-- Both tests pass.
+pub and-true : (a b : Bool) → a && b ≡ true → (a ≡ true) × (b ≡ true)
+and-true true b e = (refl, e)
+and-true false b e = absurd (true-false e refl)
+
+-- And the other way.
+pub and-intro : {a b : Bool} → a ≡ true → b ≡ true → a && b ≡ true
+and-intro p q = rw (p, q)
+
+-- The second test passes where the first does not fail.
+pub implied : (a b : Bool) → not a || b ≡ true → a ≡ true → b ≡ true
+implied true b e p = e
+implied false b e p = absurd (true-false p refl)
+
+-- A negated test that passes.
+pub not-true : (a : Bool) → not a ≡ true → a ≡ false
+not-true true e = sym e
+not-true false e = refl
+
+-- A number is 0 where another branch is not 0: the test passed.
+pub passed : (b : Bool) (x m : ℕ) → cond b x (suc m) ≡ 0 → (b ≡ true) × (x ≡ 0)
+passed true x m e = (refl, e)
+passed false x m e = absurd (let y : ⊥ = omega arith in y)
+
+-- The same, where the test failed.
+pub failed : (b : Bool) (m x : ℕ) → cond b (suc m) x ≡ 0 → (b ≡ false) × (x ≡ 0)
+failed true m x e = absurd (let y : ⊥ = omega arith in y)
+failed false m x e = (refl, e)
+
+-- The first of two numbers that is not 0 is 0: so are both.
+pub neither : (x y : ℕ) → cond (eqb x 0) y x ≡ 0 → (x ≡ 0) × (y ≡ 0)
+neither zero y e = (refl, e)
+neither (suc x) y e = let h : eqb (suc x) 0 ≡ false = ne-eqb (suc x) 0 (λ z. omega arith) in absurd (let z : suc x ≡ 0 = rw h at e in omega arith)
+
+-- LISTS
+
+-- One element less, as a walk with a count of elements to skip passes it.
+pub drop-pos : {A : Type 0} (x : A) (l : List A) {k : ℕ} → 0 < k → drop (k - 1) l ≡ drop k (x ∷ l)
+drop-pos x l {k} h = let e : k ≡ suc (k - 1) = omega arith in ap (λ (j : ℕ). drop j (x ∷ l)) (sym e)
+
+-- Default elements after a list are read as no elements.
+pub getD-padded : {A : Type 0} (l : List A) (n j : ℕ) (d : A) → getD (l ++ replicate n d) j d ≡ getD l j d
+getD-padded [] zero j d = refl
+getD-padded [] (suc n) zero d = refl
+getD-padded [] (suc n) (suc j) d = getD-padded [] n j d
+getD-padded (x ∷ l) n zero d = refl
+getD-padded (x ∷ l) n (suc j) d = getD-padded l n j d
+
+-- NUMBERS
+
+-- A fact of each number from k on: of k, and of each from k + 1 on.
+pub each-from : (P : ℕ → Type 0) (k : ℕ) → P k → ((n : ℕ) → suc k ≤ n → P n) → (n : ℕ) → k ≤ n → P n
+each-from P k here later n h = by (ℕ-discrete k n)
+  where
+    by : Dec (k ≡ n) → P n
+    by (yes e) = rw e at here
+    by (no e) = later n (omega arith)

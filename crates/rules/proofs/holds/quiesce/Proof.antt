@@ -1,0 +1,13 @@
+-- The fields are those of the definition.
+use borrow.Author.Needs.{needs}
+use Rattle.rules.proofs.holds.quiesce.Statement.{statement}
+use Rattle.rules.proofs.holds.quiesce.Tie as tie
+
+quiesced-requires : tie.Need-quiesced-requires
+quiesced-requires c κs = search needs
+
+returns : tie.Need-returns
+returns c = rw (c .quiesced .ensures)
+
+pub quiesce-spec : {M : Type 1} → statement M
+quiesce-spec = tie.close (tie.spec quiesced-requires returns)

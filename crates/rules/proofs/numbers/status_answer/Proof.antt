@@ -1,0 +1,67 @@
+-- Each status gives its answer, which fits a byte.
+use Prim.Native.Nat.{ℕ, _+_}
+use mathlib.Core.Path.{_≡_}
+use mir.Val.{Fits}
+use mir.Syntax.{w8}
+use native.Mathlib.Omega.{arith}
+use borrow.Author.Needs.{needs}
+use Rattle.rules.specs.declared.state.Fault.{Fault}
+use Rattle.rules.specs.declared.state.Fault.the-variants.{F1, F2, F3, F4, F5, F6, F7}
+use Rattle.rules.specs.State.{faultNumber}
+use Rattle.rules.proofs.numbers.status_answer.Statement.{statement}
+use Rattle.rules.proofs.numbers.status_answer.Tie as tie
+
+-- A fault's answer is a byte.
+fits : (f : Fault) {r : ℕ} → r ≡ faultNumber f → Fits w8 (100 + r)
+fits F1 e = record { fits = omega arith }
+fits F2 e = record { fits = omega arith }
+fits F3 e = record { fits = omega arith }
+fits F4 e = record { fits = omega arith }
+fits F5 e = record { fits = omega arith }
+fits F6 e = record { fits = omega arith }
+fits F7 e = record { fits = omega arith }
+
+enum-told : tie.Need-enum-told
+enum-told c = search needs
+
+enum-told-2 : tie.Need-enum-told-2
+enum-told-2 c = search needs
+
+enum-told-3 : tie.Need-enum-told-3
+enum-told-3 c = search needs
+
+enum-known-status : tie.Need-enum-known-status
+enum-known-status c = search needs
+
+fault-number-requires : tie.Need-fault-number-requires
+fault-number-requires c κs = search needs
+
+add-result : tie.Need-add-result
+add-result c = fits (c .before .before .status .given .0 .0) (c .fault-number .ensures)
+
+returns : tie.Need-returns
+returns c = search needs
+
+returns-2 : tie.Need-returns-2
+returns-2 c = search needs
+
+returns-3 : tie.Need-returns-3
+returns-3 c = search needs
+
+returns-4 : tie.Need-returns-4
+returns-4 c = cc
+
+pub status-answer-spec : {M : Type 1} → statement M
+status-answer-spec =
+    tie.close
+    (tie.spec
+    enum-told
+    enum-told-2
+    enum-told-3
+    enum-known-status
+    fault-number-requires
+    add-result
+    returns
+    returns-2
+    returns-3
+    returns-4)

@@ -1,0 +1,17 @@
+//! Seeded random tables, orders and damaged states, for comparing interpreters.
+//!
+//! The same seed always gives the same tables, orders and states.
+
+mod damage;
+mod orders;
+mod rng;
+mod tables;
+
+pub use damage::{
+    damage_names, damage_state, damage_state_by, limit_cases, strain_state, LimitCase,
+};
+pub use orders::{order, order_bytes, random_order, OrderKind};
+pub use rng::Rng;
+pub use tables::{
+    damaged_table, fault_table, limit_table, noise_table, program_table, random_table,
+};

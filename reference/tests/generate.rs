@@ -1,0 +1,98 @@
+//! The generator: the same seed gives the same things, and they are what they claim to be.
+
+use reference::bytes::{decode, encode};
+use reference::calls::run;
+use reference::fit::is_fit;
+use reference::generate::{
+    damage_names, damage_state, damage_state_by, fault_table, limit_table, order, random_order,
+    random_table, strain_state, OrderKind, Rng,
+};
+use reference::table::{count, Table};
+
+#[test]
+fn the_same_seed_gives_the_same() {
+    for seed in 0..50 {
+        let made = |mut rng: Rng| {
+            let table = random_table(&mut rng);
+            let order = random_order(&mut rng, &table, 1_000);
+            let mut state = reference::bytes::start(&table).1;
+            let damage = damage_state(&mut state, &mut rng);
+            (table, order, state, damage)
+        };
+        assert_eq!(made(Rng::new(seed)), made(Rng::new(seed)));
+    }
+}
+
+#[test]
+fn most_tables_are_accepted() {
+    let mut rng = Rng::new(1);
+    let accepted = (0..1_000).filter(|_| Table::read(&random_table(&mut rng)).is_ok());
+    assert!(accepted.count() > 750);
+}
+
+#[test]
+fn each_fault_is_met() {
+    for fault in 1..=7 {
+        let mut rng = Rng::new(u64::from(fault));
+        let met = (0..100).filter(|_| {
+            let table = fault_table(&mut rng, fault);
+            let order = order(&mut rng, &table, OrderKind::Drive, 10_000);
+            run(&table, &order).is_ok_and(|run| run.answers.contains(&(100 + fault)))
+        });
+        assert!(met.count() > 50, "F{fault}");
+    }
+}
+
+#[test]
+fn each_limit_is_met_from_both_sides() {
+    let mut rng = Rng::new(5);
+    let counts: Vec<_> = (0..600)
+        .filter_map(|_| count(&limit_table(&mut rng)).ok())
+        .collect();
+    let met = |test: &dyn Fn(&reference::Counts) -> bool| counts.iter().any(test);
+    for over in 0..2 {
+        assert!(met(&|c| c.activities == 64 + over));
+        assert!(met(&|c| c.clocks == 16 + over));
+        assert!(met(&|c| c.accumulators == 16 + over));
+        assert!(met(&|c| c.work == 65_535 + over));
+    }
+}
+
+#[test]
+fn every_damage_finds_something_and_most_break_a_clause() {
+    let mut found = vec![false; damage_names().len()];
+    let mut unfit = vec![false; found.len()];
+    for seed in 0..400 {
+        let mut rng = Rng::new(seed);
+        let bytes = random_table(&mut rng);
+        let Ok(table) = Table::read(&bytes) else {
+            continue;
+        };
+        let mut order = random_order(&mut rng, &bytes, 2_000);
+        order.truncate(rng.below(order.len() + 1));
+        let state = encode(&run(&bytes, &order).unwrap().state);
+        for (index, name) in damage_names().into_iter().enumerate() {
+            let mut damaged = state.clone();
+            found[index] |= damage_state_by(name, &mut damaged, &mut rng);
+            unfit[index] |= !decode(&damaged).is_some_and(|s| is_fit(&table, &s));
+        }
+    }
+    assert!(found.iter().all(|&f| f));
+    assert!(unfit.iter().filter(|&&u| u).count() > 45);
+}
+
+#[test]
+fn strained_states_are_fit() {
+    for seed in 0..200 {
+        let mut rng = Rng::new(seed);
+        let bytes = random_table(&mut rng);
+        let Ok(table) = Table::read(&bytes) else {
+            continue;
+        };
+        let mut order = random_order(&mut rng, &bytes, 2_000);
+        order.truncate(rng.below(order.len() + 1));
+        let mut state = encode(&run(&bytes, &order).unwrap().state);
+        let name = strain_state(&table, &mut state, &mut rng).unwrap();
+        assert!(is_fit(&table, &decode(&state).unwrap()), "{name}");
+    }
+}
