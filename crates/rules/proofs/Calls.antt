@@ -1,72 +1,31 @@
--- What a call of a step comes to: turned down with 14, 15 or 16, or taken; and what its answer says.
-use Prim.Native.Nat.{ℕ, _≤_, _<_}
-use native.Mathlib.Omega.{arith}
+-- Calls of a run: the start, who is turned down, and what the answer of a step says.
+use Prim.Native.Nat.{ℕ, _<_}
 use mathlib.Core.List.{List}
 use mathlib.Core.Bool.{Bool, true, false, cond}
 use mathlib.Core.Path.{_≡_, refl}
 use mathlib.Core.Logic.{_⊎_, inl, inr}
 use lib.Dec.{ltb, leb}
-use borrow.Author.Tests.{lt-ltb, eq-eqb, ne-eqb}
+use borrow.Author.Tests.{lt-ltb}
 use Rattle.program.specs.declared.command.Command.{Command}
 use Rattle.rules.specs.declared.state.Status.{Status}
 use Rattle.rules.specs.declared.state.Status.the-variants.{Running, AtBarrier, Ended, Faulted}
 use Rattle.rules.specs.declared.state.Activity.{Activity}
 use Rattle.rules.specs.declared.state.State.{State}
+use Rattle.rules.specs.declared.answer.Answer.the-variants.{Accepted}
 use Rattle.rules.specs.declared.answer.Stepped.{Stepped}
-use Rattle.program.specs.Bodies.{Program, programOf}
+use Rattle.program.specs.Bodies.{Program}
 use Rattle.program.specs.Table.{numberOf}
 use Rattle.rules.specs.State.{ended, isEnded, top, isAtBarrier}
 use Rattle.rules.specs.Faults.{Env}
 use Rattle.rules.specs.Effects.{Effect, applied, past, pushed, endOf, again, popped, nextOf, stopped}
-use Rattle.rules.specs.WellFormed.{wellFormed}
-use Rattle.rules.specs.Steps.{stepped, step, refusal, waits, advance, Limits, exceeds, effect, stepWith, unfit, start, startState, startWith}
+use Rattle.rules.specs.Steps.{stepped, start, Limits, startState, startWith, waits, refusal}
 use Rattle.rules.specs.Runs.{isFault}
 use Rattle.rules.proofs.Tests.{decide, true-false}
 use Rattle.rules.proofs.Shapes.{Kind, ends, meets, forks, opens, loops, moves}
-use Rattle.rules.specs.declared.answer.Answer.the-variants.{Refused, Accepted}
-
--- A call turned down leaves the state.
-abbrev pub turnedDown : Program → State → ℕ → Stepped
-turnedDown p s i = stepped (Refused (refusal p s i)) s
 
 -- A step taken answers with the activity's status after it.
 abbrev pub takenAs : State → ℕ → Effect → Stepped
 takenAs s i e = stepped (Accepted (e .self .status)) (applied s i e)
-
--- The numbers of `refusal`.
-pub refusal-range : (p : Program) (s : State) (i : ℕ) → (refusal p s i ≡ 0 → ⊥) → (14 ≤ refusal p s i) × (refusal p s i ≤ 16)
-unfolding refusal
-refusal-range p s i = go (ltb i (s .activities)) (ended s i) (waits p s i)
-  where
-    go : (a b c : Bool) → (_≡_ {A = ℕ} (cond a (cond b 15 (cond c 16 0)) 14) 0 → ⊥)
-        → (_≤_ 14 (cond a (cond b 15 (cond c 16 0)) 14)) × (_≤_ (cond a (cond b 15 (cond c 16 0)) 14) 16)
-    go true true c h = (omega arith, omega arith)
-    go true false true h = (omega arith, omega arith)
-    go true false false h = absurd (h refl)
-    go false b c h = (omega arith, omega arith)
-
--- Numbers 14 to 16.
-pub advance-refused : (l : Limits) (p : Program) (s : State) (i : ℕ) → (refusal p s i ≡ 0 → ⊥) → advance l p s i ≡ turnedDown p s i
-unfolding advance
-advance-refused l p s i h = rw (ne-eqb _ _ h)
-
--- A step within the limits.
-pub advance-taken : (l : Limits) (p : Program) (s : State) (i : ℕ) → refusal p s i ≡ 0 → exceeds l p s (effect p s i) ≡ false
-    → advance l p s i ≡ takenAs s i (effect p s i)
-unfolding advance
-advance-taken l p s i h e = rw (eq-eqb _ _ h, e)
-
--- A step of a well-formed state of an accepted table.
-pub step-advance : (l : Limits) (t : List ℕ) (s : State) (i : ℕ) → numberOf (l .work) t ≡ 0 → wellFormed (l .phase) (programOf t) s ≡ true
-    → step l t s i ≡ advance l (programOf t) s i
-unfolding step stepWith unfit
-step-advance l t s i n w = rw (n, w)
-
--- Numbers 1 to 13 do not apply there.
-pub unfit-none : (l : Limits) (t : List ℕ) (s : State) → numberOf (l .work) t ≡ 0 → wellFormed (l .phase) (programOf t) s ≡ true
-    → unfit l (numberOf (l .work) t) (programOf t) s ≡ 0
-unfolding unfit
-unfit-none l t s n w = rw (n, w)
 
 -- The start of an accepted table.
 pub start-taken : (l : Limits) (t : List ℕ) → numberOf (l .work) t ≡ 0 → start l t .state ≡ startState

@@ -6,71 +6,37 @@ use native.Mathlib.Decide.{ℕ-discrete}
 use mathlib.Core.List.{List, [], _∷_, _++_}
 use mathlib.Core.Bool.{Bool, true, false, cond, _||_}
 use mathlib.Core.Path.{_≡_, refl, sym, ap, _∙_, subst}
-use mathlib.Core.Logic.{_⊎_, inl, inr}
-use lib.Dec.{ltb, eqb}
-use borrow.Author.Tests.{ltb-false, eqb-true, eqb-false, ne-eqb, le-leb}
+use borrow.Author.Tests.{eqb-true, eqb-false, ne-eqb, le-leb}
 use Rattle.rules.specs.declared.state.State.{State}
+use Rattle.rules.specs.declared.answer.Answer.the-variants.{Refused}
 use Rattle.rules.specs.declared.answer.Stepped.{Stepped}
-use Rattle.program.specs.Bodies.{Program, programOf}
-use Rattle.program.specs.Count.{activitiesOf, clocksOf, accumulatorsOf, workOf, ownWork}
-use Rattle.program.specs.Scan.{scan}
-use Rattle.program.specs.Table.{numberOf, overCount}
-use Rattle.program.proofs.Shape.{Accepted}
+use Rattle.program.specs.Bodies.{programOf, Program}
+use Rattle.program.specs.Count.{ownWork, workOf}
+use Rattle.program.specs.Table.{numberOf}
+use Rattle.program.proofs.Shape.{Accepted, Counted}
+use Rattle.program.proofs.ShapeLaws.{accepted, numbered, numbered-counted}
 use Rattle.rules.specs.Search.{bitsBelow}
 use Rattle.rules.specs.State.{act, ended}
 use Rattle.rules.specs.Clocks.{quiescent}
 use Rattle.rules.specs.Faults.{bit}
 use Rattle.rules.specs.Effects.{applied, envOf}
 use Rattle.rules.specs.WellFormed.{wellFormed}
-use Rattle.rules.specs.Steps.{Limits, startState, at, refusal, exceeds, effect, step, fault, ready, canStep, waits}
+use Rattle.rules.specs.Steps.{Limits, at, refusal, step, stepped, fault, effect, startState, ready, canStep, waits}
 use Rattle.rules.specs.Runs.{taken, run, runFrom, answers, answersFrom, isAccepted, isFault, someFault, finished}
 use Rattle.rules.specs.Demand3.{isOfRun, allOfRun, Demand3}
-use Rattle.rules.proofs.Tests.{decide, cond-zero, and-intro, true-false}
+use Rattle.rules.proofs.Tests.{true-false, and-intro}
 use Rattle.rules.proofs.Search.{allBelow-intro, allBelow-at}
 use Rattle.rules.proofs.Sums.{sumBelow, sumBelow-same}
-use Rattle.rules.proofs.ReadyBits.{bits-zero, bits-none, bit-passes}
-use Rattle.rules.proofs.Sized.{Sized}
+use Rattle.rules.proofs.Bits.{zero-bits, bits-zero}
+use Rattle.rules.proofs.StepLaws.{fit, outcome, Outcome, unfits, refuses, overflows, takes, refusal-number, ready-bit}
+use Rattle.rules.proofs.WellFormedStep.{step-wellFormed}
+use Rattle.rules.proofs.WellFormedStart.{start-wellFormed}
 use Rattle.rules.proofs.Shapes.{kind}
 use Rattle.rules.proofs.Applied.{steps-applied, clocks-applied}
 use Rattle.rules.proofs.Potential.{pend-ended}
-use Rattle.rules.proofs.Reached.{Within, Reached, doing, failed, total, never-exceeds, effect-doing, effect-failed, reached-step, goes, doing-work, failed-work, stable-step, never-still}
+use Rattle.rules.proofs.Reached.{Reached, doing, failed, total, never-exceeds, effect-doing, effect-failed, reached-step, goes, doing-work, failed-work, stable-step, never-still}
 use Rattle.rules.proofs.Start.{start-reached, start-total}
-use Rattle.rules.proofs.Calls.{turnedDown, takenAs, step-advance, advance-taken, advance-refused, refusal-range, no-fault, unfit-none, refused-waits, start-taken}
-
--- What is proved of well-formedness elsewhere: the start state has it, and a step within the limits keeps it.
-pub record StaysFit (l : Limits) : Type 0 where
-  pub starts : (p : Program) → Accepted p → wellFormed (l .phase) p startState ≡ true
-  pub keeps : (p : Program) (s : State) (i : ℕ) → Accepted p → Sized s → wellFormed (l .phase) p s ≡ true → refusal p s i ≡ 0
-      → exceeds l p s (effect p s i) ≡ false → wellFormed (l .phase) p (applied s i (effect p s i)) ≡ true
-
--- An accepted table is within the limits.
-pub within : (l : Limits) (t : List ℕ) → l .work ≤ l .phase → numberOf (l .work) t ≡ 0 → Within l (programOf t)
-unfolding numberOf overCount
-within l t w n = go (decide (eqb (scan t) 0))
-  where
-    p : Program
-    p = programOf t
-
-    over : ℕ
-    over = cond (ltb 64 (activitiesOf p)) 9 (cond (ltb 16 (clocksOf p)) 10 (cond (ltb 16 (accumulatorsOf p)) 11 (cond (ltb (l .work) (workOf p)) 12 0)))
-
-    none : over ≡ 0 → Within l (programOf t)
-    none e =
-        let a = cond-zero (ltb 64 (activitiesOf p)) 8 _ e in
-        let b = cond-zero (ltb 16 (clocksOf p)) 9 _ (a .1) in
-        let c = cond-zero (ltb 16 (accumulatorsOf p)) 10 _ (b .1) in
-        let d = cond-zero (ltb (l .work) (workOf p)) 11 0 (c .1) in
-        record {
-          activities = ltb-false 64 (activitiesOf p) (a .0);
-          clocks = ltb-false 16 (clocksOf p) (b .0);
-          accumulators = ltb-false 16 (accumulatorsOf p) (c .0);
-          work = ltb-false (l .work) (workOf p) (d .0);
-          phase = w;
-        }
-
-    go : (eqb (scan t) 0 ≡ true) ⊎ (eqb (scan t) 0 ≡ false) → Within l (programOf t)
-    go (inl q) = none (rw q at n)
-    go (inr q) = absurd (eqb-false _ _ q (rw q at n))
+use Rattle.rules.proofs.Calls.{takenAs, no-fault, refused-waits, start-taken}
 
 -- A state at a point of a run.
 pub record Good (l : Limits) (t : List ℕ) (s : State) : Type 0 where
@@ -79,8 +45,8 @@ pub record Good (l : Limits) (t : List ℕ) (s : State) : Type 0 where
 
 -- What a call of a step comes to there.
 pub data Call (l : Limits) (t : List ℕ) (s : State) (i : ℕ) : Type 0 where
-  refused : (refusal (programOf t) s i ≡ 0 → ⊥) → step l t s i ≡ turnedDown (programOf t) s i → Call l t s i
-  accepted : refusal (programOf t) s i ≡ 0 → fault (programOf t) s i ≡ 0 → step l t s i ≡ takenAs s i (doing (programOf t) s i) → Call l t s i
+  refused : (refusal (programOf t) s i ≡ 0 → ⊥) → step l t s i ≡ stepped (Refused (refusal (programOf t) s i)) s → Call l t s i
+  performed : refusal (programOf t) s i ≡ 0 → fault (programOf t) s i ≡ 0 → step l t s i ≡ takenAs s i (doing (programOf t) s i) → Call l t s i
   faulted : refusal (programOf t) s i ≡ 0 → (fault (programOf t) s i ≡ 0 → ⊥) → step l t s i ≡ takenAs s i (failed (programOf t) s i) → Call l t s i
 
 -- The steps taken and the work pending make the work of the table, or less once a fault was given.
@@ -88,28 +54,48 @@ unfoldable pub Account : Program → Bool → State → Type 0
 Account p false s = s .steps + total ownWork p 1 s ≡ workOf p
 Account p true s = s .steps + total ownWork p 1 s < workOf p
 
-module _ (l : Limits) (t : List ℕ) (w : l .work ≤ l .phase) (ok : Accepted (programOf t)) (n : numberOf (l .work) t ≡ 0) (fitness : StaysFit l) where
+module _ (l : Limits) (t : List ℕ) (w : l .work ≤ l .phase) (n : numberOf (l .work) t ≡ 0) where
   -- The table's program.
   abbrev p : Program
   p = programOf t
 
-  -- It is within the limits.
-  limits : Within l p
-  limits = within l t w n
+  -- It has the shape of an accepted one.
+  ok : Accepted p
+  ok = accepted t (numbered (l .work) t n)
+
+  -- Its counts are within their limits.
+  limits : Counted (l .work) p
+  limits = numbered-counted (l .work) t n
 
   -- CALLS
 
   -- Nothing exceeds a limit: who is not turned down takes the step.
   pub taking : (s : State) → Good l t s → (i : ℕ) → refusal p s i ≡ 0 → step l t s i ≡ takenAs s i (effect p s i)
-  taking s g i r = step-advance l t s i n (g .fit) ∙ advance-taken l p s i r (never-exceeds l p ok limits s (g .reached) i r)
+  taking s g i r = go (outcome l t s i)
+    where
+      go : Outcome l t s i → step l t s i ≡ takenAs s i (effect p s i)
+      go (unfits k q h e) = absurd (h (sym q ∙ fit l t s n (g .fit)))
+      go (refuses k q h e) = absurd (h (sym q ∙ r))
+      go (overflows q x e) = absurd (true-false _ x (never-exceeds l p ok limits w s (g .reached) i r))
+      go (takes a b c x e) = e
+
+  -- And who is turned down, is with 14, 15 or 16.
+  refusing : (s : State) → Good l t s → (i : ℕ) → (refusal p s i ≡ 0 → ⊥) → step l t s i ≡ stepped (Refused (refusal p s i)) s
+  refusing s g i r = go (outcome l t s i)
+    where
+      go : Outcome l t s i → step l t s i ≡ stepped (Refused (refusal p s i)) s
+      go (unfits k q h e) = absurd (h (sym q ∙ fit l t s n (g .fit)))
+      go (refuses k q h e) = rw q e
+      go (overflows q x e) = absurd (r q)
+      go (takes a b c x e) = absurd (r c)
 
   -- Each call is one of the three.
   pub call : (s : State) → Good l t s → (i : ℕ) → Call l t s i
   call s g i = go (ℕ-discrete (refusal p s i) 0) (ℕ-discrete (fault p s i) 0)
     where
       go : Dec (refusal p s i ≡ 0) → Dec (fault p s i ≡ 0) → Call l t s i
-      go (no r) f = refused r (step-advance l t s i n (g .fit) ∙ advance-refused l p s i r)
-      go (yes r) (yes f) = accepted r f (taking s g i r ∙ ap (takenAs s i) (effect-doing p s i f))
+      go (no r) f = refused r (refusing s g i r)
+      go (yes r) (yes f) = performed r f (taking s g i r ∙ ap (takenAs s i) (effect-doing p s i f))
       go (yes r) (no f) = faulted r f (taking s g i r ∙ ap (takenAs s i) (effect-failed p s i f))
 
   -- A taken step leads from a good state to a good state.
@@ -117,7 +103,7 @@ module _ (l : Limits) (t : List ℕ) (w : l .work ≤ l .phase) (ok : Accepted (
   good-taken s g i r =
       record {
         reached = reached-step p ok (limits .activities) s (g .reached) i r;
-        fit = fitness .keeps p s i ok (g .reached .inv .bounded .sized) (g .fit) r (never-exceeds l p ok limits s (g .reached) i r);
+        fit = step-wellFormed l ok s (g .reached .inv .bounded .sized) i (g .fit) r (never-exceeds l p ok limits w s (g .reached) i r);
       }
 
   -- A call leads from a good state to a good state.
@@ -125,7 +111,7 @@ module _ (l : Limits) (t : List ℕ) (w : l .work ≤ l .phase) (ok : Accepted (
   good-step s g i = go (ℕ-discrete (refusal p s i) 0)
     where
       go : Dec (refusal p s i ≡ 0) → Good l t (step l t s i .state)
-      go (no r) = subst (λ x. Good l t (x .state)) (sym (step-advance l t s i n (g .fit) ∙ advance-refused l p s i r)) g
+      go (no r) = subst (λ x. Good l t (x .state)) (sym (refusing s g i r)) g
       go (yes r) = subst (λ x. Good l t (x .state)) (sym (taking s g i r)) (good-taken s g i r)
 
   -- So does a list of calls.
@@ -136,7 +122,7 @@ module _ (l : Limits) (t : List ℕ) (w : l .work ≤ l .phase) (ok : Accepted (
 
   -- The start state is good.
   pub good-start : Good l t startState
-  good-start = record { reached = start-reached p ok; fit = fitness .starts p ok }
+  good-start = record { reached = start-reached p ok; fit = start-wellFormed (l .phase) ok }
 
   -- ANSWERS
 
@@ -146,9 +132,9 @@ module _ (l : Limits) (t : List ℕ) (w : l .work ≤ l .phase) (ok : Accepted (
     where
       go : Call l t s i → isOfRun (step l t s i .answer) ≡ true
       go (refused r e) =
-          let q = refusal-range p s i r in
+          let q = refusal-number p s i r in
           subst (λ x. isOfRun (x .answer) ≡ true) (sym e) (and-intro _ _ (le-leb _ _ (q .0)) (le-leb _ _ (q .1)))
-      go (accepted r f e) = subst (λ x. isOfRun (x .answer) ≡ true) (sym e) refl
+      go (performed r f e) = subst (λ x. isOfRun (x .answer) ≡ true) (sym e) refl
       go (faulted r f e) = subst (λ x. isOfRun (x .answer) ≡ true) (sym e) refl
 
   -- And so is each of a list.
@@ -166,7 +152,7 @@ module _ (l : Limits) (t : List ℕ) (w : l .work ≤ l .phase) (ok : Accepted (
 
       go : Call l t s i → P (step l t s i)
       go (refused r e) = subst P (sym e) (omega arith)
-      go (accepted r f e) = subst P (sym e) (steps-applied s i (doing p s i))
+      go (performed r f e) = subst P (sym e) (steps-applied s i (doing p s i))
       go (faulted r f e) = subst P (sym e) (steps-applied s i (failed p s i))
 
   -- And count the accepted ones of a list.
@@ -202,7 +188,7 @@ module _ (l : Limits) (t : List ℕ) (w : l .work ≤ l .phase) (ok : Accepted (
 
       go : Call l t s i → P (step l t s i)
       go (refused r e) = subst P (sym e) (subst (λ v. A v s) (sym (keep b)) a)
-      go (accepted r f e) =
+      go (performed r f e) =
           let o = goes p s i r in
           let u = doing-work p ok (limits .activities) s (g .reached) i (o .there) (o .runs) in
           let q = no-fault (o .runs) (kind p (envOf s) i (act s i) (at p s i .command) (at p s i .inner)) in
@@ -256,7 +242,7 @@ module _ (l : Limits) (t : List ℕ) (w : l .work ≤ l .phase) (ok : Accepted (
     where
       go : Call l t s i → c < step l t s i .state .clocks
       go (refused r e) = subst (λ x. c < x .state .clocks) (sym e) h
-      go (accepted r f e) = subst (λ x. c < x .state .clocks) (sym e) (omega (arith, clocks-applied s i (doing p s i)))
+      go (performed r f e) = subst (λ x. c < x .state .clocks) (sym e) (omega (arith, clocks-applied s i (doing p s i)))
       go (faulted r f e) = subst (λ x. c < x .state .clocks) (sym e) (omega (arith, clocks-applied s i (failed p s i)))
 
   -- A quiescent phase stays quiescent under a call.
@@ -264,7 +250,7 @@ module _ (l : Limits) (t : List ℕ) (w : l .work ≤ l .phase) (ok : Accepted (
   stable-call c q s g i h z = go (ℕ-discrete (refusal p s i) 0)
     where
       go : Dec (refusal p s i ≡ 0) → quiescent (step l t s i .state) c q ≡ true
-      go (no r) = subst (λ x. quiescent (x .state) c q ≡ true) (sym (step-advance l t s i n (g .fit) ∙ advance-refused l p s i r)) z
+      go (no r) = subst (λ x. quiescent (x .state) c q ≡ true) (sym (refusing s g i r)) z
       go (yes r) =
           subst (λ x. quiescent (x .state) c q ≡ true) (sym (taking s g i r)) (stable-step c q p ok (limits .activities) s (g .reached) i r h z)
 
@@ -286,12 +272,12 @@ module _ (l : Limits) (t : List ℕ) (w : l .work ≤ l .phase) (ok : Accepted (
     -- The ready set is given.
     ready-number : ready l t s .number ≡ 0
     unfolding ready
-    ready-number = unfit-none l t s n (g .fit)
+    ready-number = fit l t s n (g .fit)
 
     -- It has those who can step.
     pub ready-set : ready l t s .set ≡ bitsBelow 64 (canStep p s)
     unfolding ready
-    ready-set = rw (unfit-none l t s n (g .fit))
+    ready-set = rw (fit l t s n (g .fit))
 
     -- It is empty only when all have ended.
     pub alive : ready l t s .set ≡ 0 → finished s ≡ true
@@ -300,13 +286,13 @@ module _ (l : Limits) (t : List ℕ) (w : l .work ≤ l .phase) (ok : Accepted (
       where
         waiting : (i : ℕ) → i < s .activities → ended s i ≡ false → waits p s i ≡ true
         waiting i m u =
-            let z = bits-zero 64 (canStep p s) (sym ready-set ∙ e) i (omega (arith, g .reached .inv .bounded .count)) in
+            let z = zero-bits 64 (canStep p s) (sym ready-set ∙ e) i (omega (arith, g .reached .inv .bounded .count)) in
             refused-waits p s i (eqb-false _ _ z) m u
 
     -- And then it is.
     over : finished s ≡ true → ready l t s .set ≡ 0
     unfolding finished canStep
-    over e = ready-set ∙ bits-none 64 (canStep p s) (λ i m. ne-eqb _ _ (stopped-at i))
+    over e = ready-set ∙ bits-zero 64 (canStep p s) (λ i m. ne-eqb _ _ (stopped-at i))
       where
         stopped-at : (i : ℕ) → refusal p s i ≡ 0 → ⊥
         stopped-at i r = let o = goes p s i r in true-false _ (allBelow-at (s .activities) (ended s) e i (o .there)) (o .runs)
@@ -315,8 +301,8 @@ module _ (l : Limits) (t : List ℕ) (w : l .work ≤ l .phase) (ok : Accepted (
     steps : (i : ℕ) → bit (ready l t s .set) i ≡ true → isAccepted (step l t s i .answer) ≡ true
     unfolding canStep
     steps i b =
-        let q = bit-passes 64 (canStep p s) i (subst (λ k. bit k i ≡ true) ready-set b) in
-        subst (λ x. isAccepted (x .answer) ≡ true) (sym (taking s g i (eqb-true _ _ (q .1)))) refl
+        let q = sym (ready-bit l t s n (g .fit) i) ∙ b in
+        subst (λ x. isAccepted (x .answer) ≡ true) (sym (taking s g i (eqb-true _ _ q))) refl
 
   -- RUNS
 
@@ -365,7 +351,7 @@ module _ (l : Limits) (t : List ℕ) (w : l .work ≤ l .phase) (ok : Accepted (
       later : run l t (before ++ after) ≡ runFrom l t (run l t before) after
       later = run-start (before ++ after) ∙ run-append before after startState ∙ ap (λ s. runFrom l t s after) (sym (run-start before))
 
-  -- Demand 3.
+  -- Demand 3: every field of the record, for a table with no number and any list.
   pub demand3 : (order : List ℕ) → Demand3 l t order
   demand3 order =
       record {

@@ -20,7 +20,6 @@ pub mod Persist
 pub mod HistoryOpen
 pub mod History
 pub mod Shapes
-pub mod ReadyBits
 pub mod Applied
 pub mod Holders
 pub mod Stable

@@ -18,13 +18,13 @@ use Rattle.rules.specs.declared.state.State.{State}
 use Rattle.program.specs.Command.{rowOf, rowAt, rows, opcode}
 use Rattle.program.specs.Bodies.{Program}
 use Rattle.program.specs.Count.{ownActivities, activitiesOf, ownClocks, clocksOf, ownAccumulators, accumulatorsOf, ownWork, workOf}
-use Rattle.program.proofs.Shape.{Accepted}
+use Rattle.program.proofs.Shape.{Accepted, Counted}
 use Rattle.rules.specs.State.{act, ended, isAtBarrier, top, hold, zeroState, noActivity, isEnded, faultOf}
 use Rattle.rules.specs.Clocks.{holds, quiescent}
 use Rattle.rules.specs.Tree.{here, inside}
 use Rattle.rules.specs.Faults.{Env}
 use Rattle.rules.specs.Effects.{make, envOf, applied, Effect, one, Spawned, spawnedCount, nobody, clockedCount, effectOf, failing, past, pushed, endOf, again, popped, nextOf, stopped, Write, writtenCount, keep, offer, reset}
-use Rattle.rules.specs.Steps.{at, Limits, makes, waits, refusal, effect, fault, spawns, exceeds}
+use Rattle.rules.specs.Steps.{at, makes, waits, refusal, effect, fault, spawns, exceeds, Limits}
 use Rattle.rules.proofs.Tests.{decide, true-false}
 use Rattle.rules.proofs.Search.{someBelow-all}
 use Rattle.rules.proofs.Sums.{sumBelow, sumBelow-one, sumBelow-at, upd, upd-other, upd-same}
@@ -74,14 +74,6 @@ pub record Reached (p : Program) (s : State) : Type 0 where
   pub clocks : s .clocks + total ownClocks p 0 s ≤ clocksOf p
   pub accumulators : s .accumulators + total ownAccumulators p 0 s ≤ accumulatorsOf p
   pub work : s .steps + total ownWork p 1 s ≤ workOf p
-
--- The counts of an accepted table are within its limits.
-pub record Within (l : Limits) (p : Program) : Type 0 where
-  pub activities : activitiesOf p ≤ 64
-  pub clocks : clocksOf p ≤ 16
-  pub accumulators : accumulatorsOf p ≤ 16
-  pub work : workOf p ≤ l .work
-  pub phase : l .work ≤ l .phase
 
 -- WEIGHTS
 
@@ -533,10 +525,10 @@ makes-one (offer x v) e = absurd (true-false false e refl)
 makes-one (reset x v) e = absurd (true-false false e refl)
 
 -- "no state reached from a start meets this": what a step makes comes out of what was pending, and a phase is at most the steps taken.
-pub never-exceeds : (l : Limits) (p : Program) (ok : Accepted p) → Within l p → (s : State) → Reached p s → (i : ℕ) → refusal p s i ≡ 0
+pub never-exceeds : (l : Limits) (p : Program) (ok : Accepted p) → Counted (l .work) p → l .work ≤ l .phase → (s : State) → Reached p s → (i : ℕ) → refusal p s i ≡ 0
     → exceeds l p s (effect p s i) ≡ false
 unfolding exceeds EachHold
-never-exceeds l p ok w s g i e =
+never-exceeds l p ok w m s g i e =
     or-false _ _
     (and-less (spawns (x .spawned)) 64 (s .activities)
     (λ q. omega (arith, spawns-one (x .spawned) q, after .activities, w .activities, activities-applied s i x)))
@@ -569,7 +561,7 @@ never-exceeds l p ok w s g i e =
     phase k = subst (λ a. hold a k .phase ≤ after .vt i) me (phase-slow (after .inv .fine i there .timed k))
 
     low : (k : ℕ) → l .phase < hold (effect p s i .self) k .phase → ⊥
-    low k q = omega (arith, phase k, w .phase, w .work, after .work, steps-applied s i (effect p s i), after .inv .slow i there)
+    low k q = omega (arith, phase k, w .work, after .work, steps-applied s i (effect p s i), after .inv .slow i there)
 
 -- A phase is at most the steps taken.
 pub phase-steps : (p : Program) (s : State) → Reached p s → (x k : ℕ) → x < s .activities → hold (act s x) k .phase ≤ s .steps

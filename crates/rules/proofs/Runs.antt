@@ -13,15 +13,15 @@ use Rattle.rules.specs.declared.state.State.{State}
 use Rattle.program.specs.Bodies.{programOf}
 use Rattle.program.specs.Count.{workOf, ownWork}
 use Rattle.program.specs.Table.{numberOf}
-use Rattle.program.proofs.Shape.{Accepted}
+use Rattle.program.proofs.ShapeLaws.{accepted, numbered, numbered-counted}
 use Rattle.rules.specs.Search.{someBelow}
 use Rattle.rules.specs.Steps.{Limits, canStep, refusal, step}
-use Rattle.rules.specs.Runs.{taken, answersFrom, answers, finished, runFrom, run, isAccepted}
+use Rattle.rules.specs.Runs.{taken, answers, answersFrom, finished, run, runFrom, isAccepted}
 use Rattle.rules.proofs.Tests.{decide}
 use Rattle.rules.proofs.Search.{Witness, someBelow-witness, someBelow-none}
-use Rattle.rules.proofs.ReadyBits.{bits-none}
+use Rattle.rules.proofs.Bits.{bits-zero}
 use Rattle.rules.proofs.Reached.{total, work-step}
-use Rattle.rules.proofs.Demand3.{StaysFit, counted, good-at, Good, alive, ready-set, taking, within, good-step}
+use Rattle.rules.proofs.Demand3.{counted, good-at, Good, alive, ready-set, taking, good-step}
 
 -- A list of steps, all taken, after which every spawned activity has ended.
 pub record Finishing (l : Limits) (t : List ℕ) (s : State) : Type 0 where
@@ -29,10 +29,10 @@ pub record Finishing (l : Limits) (t : List ℕ) (s : State) : Type 0 where
   pub taken-all : taken (answersFrom l t s more) ≡ length more
   pub done : finished (runFrom l t s more) ≡ true
 
-module _ (l : Limits) (t : List ℕ) (w : l .work ≤ l .phase) (ok : Accepted (programOf t)) (n : numberOf (l .work) t ≡ 0) (fitness : StaysFit l) where
+module _ (l : Limits) (t : List ℕ) (w : l .work ≤ l .phase) (n : numberOf (l .work) t ≡ 0) where
   -- Termination: every list has at most the work's number of accepted steps.
   pub terminates : (order : List ℕ) → taken (answers l t order) ≤ workOf (programOf t)
-  terminates order = omega (arith, counted l t w ok n fitness order, good-at l t w ok n fitness order .reached .work)
+  terminates order = omega (arith, counted l t w n order, good-at l t w n order .reached .work)
 
   -- Some activity is ready, or all have ended.
   ready-or-done : (s : State) → Good l t s → (Witness 64 (canStep (programOf t) s)) ⊎ (finished s ≡ true)
@@ -42,8 +42,8 @@ module _ (l : Limits) (t : List ℕ) (w : l .work ≤ l .phase) (ok : Accepted (
           → (Witness 64 (canStep (programOf t) s)) ⊎ (finished s ≡ true)
       go (inl e) = inl (someBelow-witness 64 (canStep (programOf t) s) e)
       go (inr e) =
-          inr (alive l t w ok n fitness s g
-          (ready-set l t w ok n fitness s g ∙ bits-none 64 (canStep (programOf t) s) (someBelow-none 64 (canStep (programOf t) s) e)))
+          inr (alive l t w n s g
+          (ready-set l t w n s g ∙ bits-zero 64 (canStep (programOf t) s) (someBelow-none 64 (canStep (programOf t) s) e)))
 
   -- With k of work pending at most.
   finishing : (k : ℕ) (s : State) → Good l t s → total ownWork (programOf t) 1 s < k → Finishing l t s
@@ -61,16 +61,16 @@ module _ (l : Limits) (t : List ℕ) (w : l .work ≤ l .phase) (ok : Accepted (
           r = eqb-true _ _ (x .passes)
 
           answer : isAccepted (step l t s (x .at) .answer) ≡ true
-          answer = ap (λ y. isAccepted (y .answer)) (taking l t w ok n fitness s g (x .at) r)
+          answer = ap (λ y. isAccepted (y .answer)) (taking l t w n s g (x .at) r)
 
           falls : total ownWork (programOf t) 1 (step l t s (x .at) .state) < k
           falls =
-              let q = work-step (programOf t) ok (within l t w n .activities) s (g .reached) (x .at) r in
-              subst (λ y. total ownWork (programOf t) 1 (y .state) < k) (sym (taking l t w ok n fitness s g (x .at) r)) (omega arith)
+              let q = work-step (programOf t) (accepted t (numbered (l .work) t n)) (numbered-counted (l .work) t n .activities) s (g .reached) (x .at) r in
+              subst (λ y. total ownWork (programOf t) 1 (y .state) < k) (sym (taking l t w n s g (x .at) r)) (omega arith)
 
           rest : Finishing l t (step l t s (x .at) .state)
-          rest = ih (step l t s (x .at) .state) (good-step l t w ok n fitness s g (x .at)) falls
+          rest = ih (step l t s (x .at) .state) (good-step l t w n s g (x .at)) falls
 
   -- From every point of a run a list finishes it.
   pub finishes-from : (order : List ℕ) → Finishing l t (run l t order)
-  finishes-from order = finishing (suc (total ownWork (programOf t) 1 (run l t order))) (run l t order) (good-at l t w ok n fitness order) (omega arith)
+  finishes-from order = finishing (suc (total ownWork (programOf t) 1 (run l t order))) (run l t order) (good-at l t w n order) (omega arith)

@@ -2,22 +2,20 @@
 use Prim.Native.Nat.{ℕ, _≤_, _<_}
 use native.Mathlib.Omega.{arith}
 use mathlib.Core.Bool.{true, false}
-use mathlib.Core.Path.{_≡_, refl, sym, _∙_, subst}
-use lib.ListN.{replicate, getD-replicate}
+use mathlib.Core.Path.{_≡_, refl, subst}
 use Rattle.program.specs.declared.command.Command.{Command}
 use Rattle.rules.specs.declared.state.Activity.{Activity}
 use Rattle.program.specs.Bodies.{Program}
 use Rattle.program.specs.Count.{tally, workOf, activitiesOf, clocksOf, accumulatorsOf, ownActivities, ownClocks, ownAccumulators, ownWork}
 use Rattle.program.proofs.Shape.{Accepted}
-use Rattle.rules.specs.State.{noActivity, noFrame, noFrames, act, absent, isEnded, isAtBarrier, top}
+use Rattle.rules.specs.State.{noActivity, noFrames, noFrame, act, isEnded, isAtBarrier, top}
 use Rattle.rules.specs.Clocks.{holds, isHeld}
 use Rattle.rules.specs.Tree.{here}
 use Rattle.rules.specs.Effects.{withFrames}
 use Rattle.rules.specs.Steps.{startState}
 use Rattle.rules.proofs.Tests.{true-false}
 use Rattle.rules.proofs.Sums.{sumBelow}
-use Rattle.rules.proofs.Lists.{old, stored, Stored, new}
-use Rattle.rules.proofs.Sized.{Sized, SizedActivity}
+use Rattle.rules.proofs.WellFormedStart.{start-sized}
 use Rattle.rules.proofs.Shapes.{isNext}
 use Rattle.rules.proofs.Holders.{EachHold, each-none}
 use Rattle.rules.proofs.VirtualTime.{Fine, Timed, timed-none}
@@ -29,18 +27,6 @@ use Rattle.rules.proofs.Reached.{Inv, total, Reached}
 -- Activity 0 at the start.
 main : Activity
 main = withFrames noActivity 1 noFrames
-
--- All arrays have their sizes.
-sized-start : Sized startState
-unfolding main
-sized-start = record { acts64 = refl; accs16 = refl; cells16 = refl; each = λ i l. go i l (stored (replicate 64 noActivity) 0 main i absent) }
-  where
-    all : SizedActivity noActivity
-    all = record { frames16 = refl; holds8 = refl; names8 = refl }
-
-    go : (i : ℕ) → i < 64 → Stored (replicate 64 noActivity) 0 main i absent → SizedActivity (act startState i)
-    go i l (new e v) = subst SizedActivity (sym v) (record { frames16 = refl; holds8 = refl; names8 = refl })
-    go i l (old v) = subst SizedActivity (sym (v ∙ getD-replicate 64 i noActivity absent l)) all
 
 -- A fact of each activity is one of main.
 only-main : (P : ℕ → Activity → Type 0) → P 0 main → (x : ℕ) → x < startState .activities → P x (act startState x)
@@ -69,7 +55,7 @@ module _ (p : Program) (ok : Accepted p) where
   unfolding main
   start-inv =
       record {
-        bounded = record { sized = sized-start; count = omega arith };
+        bounded = record { sized = start-sized; count = omega arith };
         fine = only-main (λ x a. Fine 0 (λ c. 0) 0 x a) start-fine;
         slow = λ x l. omega arith;
         stacks = only-main (λ x a. isEnded (a .status) ≡ false → Stack p (a .depth) (a .frames)) (λ e. stack-lone p ok noFrame (ok .some) refl refl);
