@@ -343,13 +343,15 @@ module _ (l : Limits) (t : List ℕ) (w : l .work ≤ l .phase) (n : numberOf (l
       let a : run l t order .steps + total ownWork p 1 (run l t order) < workOf p = subst (λ b. Account p b (run l t order)) f (account order) in
       omega (arith, counted order)
 
+  -- A longer list goes on from the end of a shorter one.
+  pub run-on : (before after : List ℕ) → run l t (before ++ after) ≡ runFrom l t (run l t before) after
+  run-on before after = run-start (before ++ after) ∙ run-append before after startState ∙ ap (λ s. runFrom l t s after) (sym (run-start before))
+
   -- Quiescent at a point: quiescent at every later one.
-  stable : (before after : List ℕ) (c q : ℕ) → c < run l t before .clocks → quiescent (run l t before) c q ≡ true → quiescent (run l t (before ++ after)) c q ≡ true
+  stable : (before after : List ℕ) (c q : ℕ) → c < run l t before .clocks → quiescent (run l t before) c q ≡ true
+      → quiescent (run l t (before ++ after)) c q ≡ true
   stable before after c q h z =
-      subst (λ s. quiescent s c q ≡ true) (sym later) (stable-run c q after (run l t before) (good-at before) h z)
-    where
-      later : run l t (before ++ after) ≡ runFrom l t (run l t before) after
-      later = run-start (before ++ after) ∙ run-append before after startState ∙ ap (λ s. runFrom l t s after) (sym (run-start before))
+      subst (λ s. quiescent s c q ≡ true) (sym (run-on before after)) (stable-run c q after (run l t before) (good-at before) h z)
 
   -- Demand 3: every field of the record, for a table with no number and any list.
   pub demand3 : (order : List ℕ) → Demand3 l t order

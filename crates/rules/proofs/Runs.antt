@@ -3,7 +3,7 @@
 use Prim.Native.Nat.{ℕ, zero, suc, _≤_, _<_}
 use native.Mathlib.Omega.{arith}
 use native.Mathlib.Nat.{not-suc-le-zero}
-use mathlib.Core.List.{List, [], _∷_}
+use mathlib.Core.List.{List, [], _∷_, _++_}
 use mathlib.Core.Bool.{true, false}
 use mathlib.Core.Path.{_≡_, refl, sym, ap, _∙_, subst}
 use mathlib.Core.Logic.{_⊎_, inl, inr}
@@ -21,7 +21,7 @@ use Rattle.rules.proofs.Tests.{decide}
 use Rattle.rules.proofs.Search.{Witness, someBelow-witness, someBelow-none}
 use Rattle.rules.proofs.Bits.{bits-zero}
 use Rattle.rules.proofs.Reached.{total, work-step}
-use Rattle.rules.proofs.Demand3.{counted, good-at, Good, alive, ready-set, taking, good-step}
+use Rattle.rules.proofs.Demand3.{counted, good-at, Good, alive, ready-set, taking, good-step, run-on}
 
 -- A list of steps, all taken, after which every spawned activity has ended.
 pub record Finishing (l : Limits) (t : List ℕ) (s : State) : Type 0 where
@@ -45,7 +45,7 @@ module _ (l : Limits) (t : List ℕ) (w : l .work ≤ l .phase) (n : numberOf (l
           inr (alive l t w n s g
           (ready-set l t w n s g ∙ bits-zero 64 (canStep (programOf t) s) (someBelow-none 64 (canStep (programOf t) s) e)))
 
-  -- With k of work pending at most.
+  -- With less than k of work pending: each step taken lowers it.
   finishing : (k : ℕ) (s : State) → Good l t s → total ownWork (programOf t) 1 s < k → Finishing l t s
   unfolding runFrom answersFrom taken canStep
   finishing zero s g h = absurd (not-suc-le-zero h)
@@ -74,3 +74,7 @@ module _ (l : Limits) (t : List ℕ) (w : l .work ≤ l .phase) (n : numberOf (l
   -- From every point of a run a list finishes it.
   pub finishes-from : (order : List ℕ) → Finishing l t (run l t order)
   finishes-from order = finishing (suc (total ownWork (programOf t) 1 (run l t order))) (run l t order) (good-at l t w n order) (omega arith)
+
+  -- The order with that list is a finished run.
+  pub completes : (order : List ℕ) → finished (run l t (order ++ finishes-from order .more)) ≡ true
+  completes order = subst (λ s. finished s ≡ true) (sym (run-on l t w n order (finishes-from order .more))) (finishes-from order .done)
