@@ -64,7 +64,7 @@ pub record Inv (p : Program) (s : State) (vt base : ℕ → ℕ) : Type 0 where
 unfoldable pub total : (Command → ℕ) → Program → ℕ → State → ℕ
 total own p late s = sumBelow (s .activities) (λ x. pend own p late (act s x))
 
--- A reached state: the invariant, and counts that what is pending never exceeds.
+-- A reached state: the invariant, and what is made and pending within the counts of the table.
 pub record Reached (p : Program) (s : State) : Type 0 where
   pub vt : ℕ → ℕ
   pub base : ℕ → ℕ
