@@ -1,0 +1,5 @@
+pub mod Filled
+pub mod Searches
+pub mod Rows
+pub mod Blocked
+pub mod Entries

@@ -1,0 +1,47 @@
+-- Laws of searches: one turn of a loop, two searches over the same, and the order of two searches.
+use Prim.Native.Nat.{ℕ, _+_, _≤_, _<_}
+use native.Mathlib.Omega.{arith}
+use native.Mathlib.Numerals.{add-one}
+use mathlib.Core.Path.{_≡_, refl, sym, _∙_}
+use mathlib.Core.Bool.{Bool, true, false, _&&_}
+use Rattle.rules.specs.Search.{someBelow}
+use Rattle.rules.proofs.Tests.{and-true, and-intro}
+use Rattle.rules.proofs.Search.{someBelow-witness, someBelow-intro}
+
+-- A search by a loop over f: it stops at k, goes on past k, or comes to the end.
+module _ (f : ℕ → Bool) (k : ℕ) where
+  pub found : (n : ℕ) {r : Bool} → k < n → r ≡ f k → r ≡ true → true ≡ someBelow n f
+  found n h e t = sym (someBelow-intro n f k h (sym e ∙ t))
+
+  pub passed : {r : Bool} → someBelow k f ≡ false → r ≡ f k → r ≡ false → someBelow (k + 1) f ≡ false
+  unfolding someBelow
+  passed a e t = rw (add-one k, sym e ∙ t, a)
+
+  pub none : (n : ℕ) → k ≤ n → n ≤ k → someBelow k f ≡ false → false ≡ someBelow n f
+  none n h l e = let q : k ≡ n = omega arith in sym (rw q at e)
+
+-- the same answer, from the one to the other and back
+pub both : (a b : Bool) → (a ≡ true → b ≡ true) → (b ≡ true → a ≡ true) → a ≡ b
+both true b p q = sym (p refl)
+both false true p q = q refl
+both false false p q = refl
+
+-- own clocks first, or activities first
+pub someBelow-swap : (n m : ℕ) (f : ℕ → Bool) (g : ℕ → ℕ → Bool) → someBelow m (λ k. f k && someBelow n (g k)) ≡ someBelow n (λ x. someBelow m (λ k. f k && g k x))
+someBelow-swap n m f g = both _ _ there back
+  where
+    there : someBelow m (λ k. f k && someBelow n (g k)) ≡ true → someBelow n (λ x. someBelow m (λ k. f k && g k x)) ≡ true
+    there e =
+        let u = someBelow-witness m (λ k. f k && someBelow n (g k)) e in
+        let q = and-true (f (u .at)) (someBelow n (g (u .at))) (u .passes) in
+        let v = someBelow-witness n (g (u .at)) (q .1) in
+        someBelow-intro n (λ x. someBelow m (λ k. f k && g k x)) (v .at) (v .below)
+        (someBelow-intro m (λ k. f k && g k (v .at)) (u .at) (u .below) (and-intro (f (u .at)) (g (u .at) (v .at)) (q .0) (v .passes)))
+
+    back : someBelow n (λ x. someBelow m (λ k. f k && g k x)) ≡ true → someBelow m (λ k. f k && someBelow n (g k)) ≡ true
+    back e =
+        let u = someBelow-witness n (λ x. someBelow m (λ k. f k && g k x)) e in
+        let v = someBelow-witness m (λ k. f k && g k (u .at)) (u .passes) in
+        let q = and-true (f (v .at)) (g (v .at) (u .at)) (v .passes) in
+        someBelow-intro m (λ k. f k && someBelow n (g k)) (v .at) (v .below)
+        (and-intro (f (v .at)) (someBelow n (g (v .at))) (q .0) (someBelow-intro n (g (v .at)) (u .at) (u .below) (q .1)))
