@@ -2,5 +2,4 @@ pub mod Tests
 pub mod Search
 pub mod Sums
 pub mod Lists
-
 mod Cases
