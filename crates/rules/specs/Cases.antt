@@ -116,41 +116,137 @@ ownTables =
 unfoldable pub own : List Answered
 own =
     -- "Passing .. makes each live": ASYNC of a clock after a NEXT.
-    record { table = 0x02 ∷ 0x02 ∷ 0x00 ∷ 0x01 ∷ 0x05 ∷ 0x01 ∷ 0x01 ∷ 0x00 ∷ 0x00 ∷ []; order = 0 ∷ 0 ∷ 0 ∷ 0 ∷ []; answers = 0 ∷ 0 ∷ 0 ∷ 0 ∷ [] }
+    record {
+      table = 0x02 ∷ 0x02 ∷ 0x00 ∷ 0x01 ∷ 0x05 ∷ 0x01 ∷ 0x01 ∷ 0x00 ∷ 0x00 ∷ [];
+      order = 0 ∷ 0 ∷ 0 ∷ 0 ∷ [];
+      answers = 0 ∷ 0 ∷ 0 ∷ 0 ∷ [];
+    }
     -- The END of a FINISH body waits for a grandchild whose spawner has ended.
-    ∷ record { table = 0x04 ∷ 0x06 ∷ 0x01 ∷ 0x00 ∷ 0x05 ∷ 0x02 ∷ 0x00 ∷ 0x00 ∷ 0x05 ∷ 0x03 ∷ 0x00 ∷ 0x00 ∷ 0x00 ∷ []; order = 0 ∷ 0 ∷ 1 ∷ 1 ∷ 0 ∷ 2 ∷ 0 ∷ 0 ∷ []; answers = 0 ∷ 0 ∷ 0 ∷ 0 ∷ 16 ∷ 0 ∷ 0 ∷ 0 ∷ [] }
+    ∷ record {
+      table = 0x04 ∷ 0x06 ∷ 0x01 ∷ 0x00 ∷ 0x05 ∷ 0x02 ∷ 0x00 ∷ 0x00 ∷ 0x05 ∷ 0x03 ∷ 0x00 ∷ 0x00 ∷ 0x00 ∷ [];
+      order = 0 ∷ 0 ∷ 1 ∷ 1 ∷ 0 ∷ 2 ∷ 0 ∷ 0 ∷ [];
+      answers = 0 ∷ 0 ∷ 0 ∷ 0 ∷ 16 ∷ 0 ∷ 0 ∷ 0 ∷ [];
+    }
     -- READ waits for a grandchild whose spawner has ended; so does RESET.
-    ∷ record { table = 0x03 ∷ 0x08 ∷ 0x00 ∷ 0x00 ∷ 0x05 ∷ 0x01 ∷ 0x00 ∷ 0x0A ∷ 0x00 ∷ 0x00 ∷ 0x05 ∷ 0x02 ∷ 0x00 ∷ 0x00 ∷ 0x00 ∷ []; order = 0 ∷ 0 ∷ 1 ∷ 1 ∷ 0 ∷ 2 ∷ 0 ∷ 0 ∷ []; answers = 0 ∷ 0 ∷ 0 ∷ 0 ∷ 16 ∷ 0 ∷ 0 ∷ 0 ∷ [] }
-    ∷ record { table = 0x03 ∷ 0x08 ∷ 0x00 ∷ 0x00 ∷ 0x05 ∷ 0x01 ∷ 0x00 ∷ 0x0B ∷ 0x00 ∷ 0x00 ∷ 0x05 ∷ 0x02 ∷ 0x00 ∷ 0x00 ∷ 0x00 ∷ []; order = 0 ∷ 0 ∷ 1 ∷ 1 ∷ 0 ∷ 2 ∷ 0 ∷ 0 ∷ []; answers = 0 ∷ 0 ∷ 0 ∷ 0 ∷ 16 ∷ 0 ∷ 0 ∷ 0 ∷ [] }
+    ∷ record {
+      table = 0x03 ∷ 0x08 ∷ 0x00 ∷ 0x00 ∷ 0x05 ∷ 0x01 ∷ 0x00 ∷ 0x0A ∷ 0x00 ∷ 0x00 ∷ 0x05 ∷ 0x02 ∷ 0x00 ∷ 0x00 ∷ 0x00 ∷ [];
+      order = 0 ∷ 0 ∷ 1 ∷ 1 ∷ 0 ∷ 2 ∷ 0 ∷ 0 ∷ [];
+      answers = 0 ∷ 0 ∷ 0 ∷ 0 ∷ 16 ∷ 0 ∷ 0 ∷ 0 ∷ [];
+    }
+    ∷ record {
+      table = 0x03 ∷ 0x08 ∷ 0x00 ∷ 0x00 ∷ 0x05 ∷ 0x01 ∷ 0x00 ∷ 0x0B ∷ 0x00 ∷ 0x00 ∷ 0x05 ∷ 0x02 ∷ 0x00 ∷ 0x00 ∷ 0x00 ∷ [];
+      order = 0 ∷ 0 ∷ 1 ∷ 1 ∷ 0 ∷ 2 ∷ 0 ∷ 0 ∷ [];
+      answers = 0 ∷ 0 ∷ 0 ∷ 0 ∷ 16 ∷ 0 ∷ 0 ∷ 0 ∷ [];
+    }
     -- A child from before the finish is not inside.
-    ∷ record { table = 0x03 ∷ 0x05 ∷ 0x02 ∷ 0x00 ∷ 0x06 ∷ 0x01 ∷ 0x00 ∷ 0x00 ∷ 0x00 ∷ []; order = 0 ∷ 0 ∷ 0 ∷ 0 ∷ 1 ∷ []; answers = 0 ∷ 0 ∷ 0 ∷ 0 ∷ 0 ∷ [] }
+    ∷ record {
+      table = 0x03 ∷ 0x05 ∷ 0x02 ∷ 0x00 ∷ 0x06 ∷ 0x01 ∷ 0x00 ∷ 0x00 ∷ 0x00 ∷ [];
+      order = 0 ∷ 0 ∷ 0 ∷ 0 ∷ 1 ∷ [];
+      answers = 0 ∷ 0 ∷ 0 ∷ 0 ∷ 0 ∷ [];
+    }
     -- "With no clocks it never waits."
-    ∷ record { table = 0x01 ∷ 0x01 ∷ 0x00 ∷ []; order = 0 ∷ 0 ∷ 0 ∷ 0 ∷ []; answers = 0 ∷ 0 ∷ 0 ∷ 15 ∷ [] }
+    ∷ record {
+      table = 0x01 ∷ 0x01 ∷ 0x00 ∷ [];
+      order = 0 ∷ 0 ∷ 0 ∷ 0 ∷ [];
+      answers = 0 ∷ 0 ∷ 0 ∷ 15 ∷ [];
+    }
     -- A dropped clock holds nobody up: the child drops it, and then main passes.
-    ∷ record { table = 0x02 ∷ 0x02 ∷ 0x00 ∷ 0x05 ∷ 0x01 ∷ 0x01 ∷ 0x01 ∷ 0x00 ∷ 0x04 ∷ 0x00 ∷ 0x00 ∷ []; order = 0 ∷ 0 ∷ 0 ∷ 0 ∷ 1 ∷ 0 ∷ 0 ∷ []; answers = 0 ∷ 0 ∷ 0 ∷ 16 ∷ 0 ∷ 0 ∷ 0 ∷ [] }
+    ∷ record {
+      table = 0x02 ∷ 0x02 ∷ 0x00 ∷ 0x05 ∷ 0x01 ∷ 0x01 ∷ 0x01 ∷ 0x00 ∷ 0x04 ∷ 0x00 ∷ 0x00 ∷ [];
+      order = 0 ∷ 0 ∷ 0 ∷ 0 ∷ 1 ∷ 0 ∷ 0 ∷ [];
+      answers = 0 ∷ 0 ∷ 0 ∷ 16 ∷ 0 ∷ 0 ∷ 0 ∷ [];
+    }
     -- A holder that resumed holds nobody up, and meets at the same phase later.
-    ∷ record { table = 0x02 ∷ 0x02 ∷ 0x00 ∷ 0x05 ∷ 0x01 ∷ 0x01 ∷ 0x01 ∷ 0x00 ∷ 0x03 ∷ 0x00 ∷ 0x01 ∷ 0x00 ∷ []; order = 0 ∷ 0 ∷ 0 ∷ 0 ∷ 1 ∷ 0 ∷ 1 ∷ 1 ∷ 1 ∷ []; answers = 0 ∷ 0 ∷ 0 ∷ 16 ∷ 0 ∷ 0 ∷ 0 ∷ 0 ∷ 0 ∷ [] }
+    ∷ record {
+      table = 0x02 ∷ 0x02 ∷ 0x00 ∷ 0x05 ∷ 0x01 ∷ 0x01 ∷ 0x01 ∷ 0x00 ∷ 0x03 ∷ 0x00 ∷ 0x01 ∷ 0x00 ∷ [];
+      order = 0 ∷ 0 ∷ 0 ∷ 0 ∷ 1 ∷ 0 ∷ 1 ∷ 1 ∷ 1 ∷ [];
+      answers = 0 ∷ 0 ∷ 0 ∷ 16 ∷ 0 ∷ 0 ∷ 0 ∷ 0 ∷ 0 ∷ [];
+    }
     -- "END of a REPEAT body runs it again until n runs are done. REPEAT 0 takes one step and runs nothing."
-    ∷ record { table = 0x02 ∷ 0x07 ∷ 0x02 ∷ 0x01 ∷ 0x00 ∷ 0x00 ∷ []; order = 0 ∷ 0 ∷ 0 ∷ 0 ∷ 0 ∷ []; answers = 0 ∷ 0 ∷ 0 ∷ 0 ∷ 15 ∷ [] }
-    ∷ record { table = 0x02 ∷ 0x07 ∷ 0x00 ∷ 0x01 ∷ 0x00 ∷ 0x00 ∷ []; order = 0 ∷ 0 ∷ 0 ∷ []; answers = 0 ∷ 0 ∷ 15 ∷ [] }
+    ∷ record {
+      table = 0x02 ∷ 0x07 ∷ 0x02 ∷ 0x01 ∷ 0x00 ∷ 0x00 ∷ [];
+      order = 0 ∷ 0 ∷ 0 ∷ 0 ∷ 0 ∷ [];
+      answers = 0 ∷ 0 ∷ 0 ∷ 0 ∷ 15 ∷ [];
+    }
+    ∷ record {
+      table = 0x02 ∷ 0x07 ∷ 0x00 ∷ 0x01 ∷ 0x00 ∷ 0x00 ∷ [];
+      order = 0 ∷ 0 ∷ 0 ∷ [];
+      answers = 0 ∷ 0 ∷ 15 ∷ [];
+    }
     -- F1 of RESUME, DROP and ASYNC. A faulted activity counts as ended, and its clocks are dropped.
-    ∷ record { table = 0x01 ∷ 0x03 ∷ 0x00 ∷ 0x00 ∷ []; order = 0 ∷ 0 ∷ []; answers = 101 ∷ 15 ∷ [] }
-    ∷ record { table = 0x01 ∷ 0x04 ∷ 0x00 ∷ 0x00 ∷ []; order = 0 ∷ []; answers = 101 ∷ [] }
-    ∷ record { table = 0x02 ∷ 0x02 ∷ 0x00 ∷ 0x05 ∷ 0x01 ∷ 0x01 ∷ 0x01 ∷ 0x00 ∷ 0x03 ∷ 0x01 ∷ 0x00 ∷ []; order = 0 ∷ 0 ∷ 0 ∷ 0 ∷ 1 ∷ 0 ∷ 0 ∷ []; answers = 0 ∷ 0 ∷ 0 ∷ 16 ∷ 101 ∷ 0 ∷ 0 ∷ [] }
-    ∷ record { table = 0x02 ∷ 0x05 ∷ 0x01 ∷ 0x01 ∷ 0x00 ∷ 0x00 ∷ []; order = 0 ∷ []; answers = 101 ∷ [] }
+    ∷ record {
+      table = 0x01 ∷ 0x03 ∷ 0x00 ∷ 0x00 ∷ [];
+      order = 0 ∷ 0 ∷ [];
+      answers = 101 ∷ 15 ∷ [];
+    }
+    ∷ record {
+      table = 0x01 ∷ 0x04 ∷ 0x00 ∷ 0x00 ∷ [];
+      order = 0 ∷ [];
+      answers = 101 ∷ [];
+    }
+    ∷ record {
+      table = 0x02 ∷ 0x02 ∷ 0x00 ∷ 0x05 ∷ 0x01 ∷ 0x01 ∷ 0x01 ∷ 0x00 ∷ 0x03 ∷ 0x01 ∷ 0x00 ∷ [];
+      order = 0 ∷ 0 ∷ 0 ∷ 0 ∷ 1 ∷ 0 ∷ 0 ∷ [];
+      answers = 0 ∷ 0 ∷ 0 ∷ 16 ∷ 101 ∷ 0 ∷ 0 ∷ [];
+    }
+    ∷ record {
+      table = 0x02 ∷ 0x05 ∷ 0x01 ∷ 0x01 ∷ 0x00 ∷ 0x00 ∷ [];
+      order = 0 ∷ [];
+      answers = 101 ∷ [];
+    }
     -- F2; F3 before F1; F4.
-    ∷ record { table = 0x02 ∷ 0x02 ∷ 0x00 ∷ 0x03 ∷ 0x00 ∷ 0x05 ∷ 0x01 ∷ 0x01 ∷ 0x00 ∷ 0x00 ∷ []; order = 0 ∷ 0 ∷ 0 ∷ []; answers = 0 ∷ 0 ∷ 102 ∷ [] }
-    ∷ record { table = 0x03 ∷ 0x06 ∷ 0x01 ∷ 0x00 ∷ 0x05 ∷ 0x02 ∷ 0x01 ∷ 0x00 ∷ 0x00 ∷ []; order = 0 ∷ 0 ∷ []; answers = 0 ∷ 103 ∷ [] }
-    ∷ record { table = 0x01 ∷ 0x02 ∷ 0x00 ∷ 0x02 ∷ 0x00 ∷ 0x00 ∷ []; order = 0 ∷ 0 ∷ []; answers = 0 ∷ 104 ∷ [] }
+    ∷ record {
+      table = 0x02 ∷ 0x02 ∷ 0x00 ∷ 0x03 ∷ 0x00 ∷ 0x05 ∷ 0x01 ∷ 0x01 ∷ 0x00 ∷ 0x00 ∷ [];
+      order = 0 ∷ 0 ∷ 0 ∷ [];
+      answers = 0 ∷ 0 ∷ 102 ∷ [];
+    }
+    ∷ record {
+      table = 0x03 ∷ 0x06 ∷ 0x01 ∷ 0x00 ∷ 0x05 ∷ 0x02 ∷ 0x01 ∷ 0x00 ∷ 0x00 ∷ [];
+      order = 0 ∷ 0 ∷ [];
+      answers = 0 ∷ 103 ∷ [];
+    }
+    ∷ record {
+      table = 0x01 ∷ 0x02 ∷ 0x00 ∷ 0x02 ∷ 0x00 ∷ 0x00 ∷ [];
+      order = 0 ∷ 0 ∷ [];
+      answers = 0 ∷ 104 ∷ [];
+    }
     -- F5 of OFFER, READ and RESET.
-    ∷ record { table = 0x01 ∷ 0x09 ∷ 0x00 ∷ 0x00 ∷ []; order = 0 ∷ []; answers = 105 ∷ [] }
-    ∷ record { table = 0x01 ∷ 0x0A ∷ 0x00 ∷ 0x00 ∷ []; order = 0 ∷ []; answers = 105 ∷ [] }
-    ∷ record { table = 0x01 ∷ 0x0B ∷ 0x00 ∷ 0x00 ∷ []; order = 0 ∷ []; answers = 105 ∷ [] }
+    ∷ record {
+      table = 0x01 ∷ 0x09 ∷ 0x00 ∷ 0x00 ∷ [];
+      order = 0 ∷ [];
+      answers = 105 ∷ [];
+    }
+    ∷ record {
+      table = 0x01 ∷ 0x0A ∷ 0x00 ∷ 0x00 ∷ [];
+      order = 0 ∷ [];
+      answers = 105 ∷ [];
+    }
+    ∷ record {
+      table = 0x01 ∷ 0x0B ∷ 0x00 ∷ 0x00 ∷ [];
+      order = 0 ∷ [];
+      answers = 105 ∷ [];
+    }
     -- F6 of READ and RESET, before F7.
-    ∷ record { table = 0x02 ∷ 0x02 ∷ 0x00 ∷ 0x08 ∷ 0x00 ∷ 0x00 ∷ 0x05 ∷ 0x01 ∷ 0x01 ∷ 0x00 ∷ 0x0A ∷ 0x00 ∷ 0x00 ∷ []; order = 0 ∷ 0 ∷ 0 ∷ 1 ∷ []; answers = 0 ∷ 0 ∷ 0 ∷ 106 ∷ [] }
-    ∷ record { table = 0x02 ∷ 0x08 ∷ 0x00 ∷ 0x00 ∷ 0x05 ∷ 0x01 ∷ 0x00 ∷ 0x00 ∷ 0x0B ∷ 0x00 ∷ 0x00 ∷ []; order = 0 ∷ 0 ∷ 1 ∷ []; answers = 0 ∷ 0 ∷ 106 ∷ [] }
+    ∷ record {
+      table = 0x02 ∷ 0x02 ∷ 0x00 ∷ 0x08 ∷ 0x00 ∷ 0x00 ∷ 0x05 ∷ 0x01 ∷ 0x01 ∷ 0x00 ∷ 0x0A ∷ 0x00 ∷ 0x00 ∷ [];
+      order = 0 ∷ 0 ∷ 0 ∷ 1 ∷ [];
+      answers = 0 ∷ 0 ∷ 0 ∷ 106 ∷ [];
+    }
+    ∷ record {
+      table = 0x02 ∷ 0x08 ∷ 0x00 ∷ 0x00 ∷ 0x05 ∷ 0x01 ∷ 0x00 ∷ 0x00 ∷ 0x0B ∷ 0x00 ∷ 0x00 ∷ [];
+      order = 0 ∷ 0 ∷ 1 ∷ [];
+      answers = 0 ∷ 0 ∷ 106 ∷ [];
+    }
     -- F7, "Faults come before waiting."
-    ∷ record { table = 0x02 ∷ 0x02 ∷ 0x00 ∷ 0x08 ∷ 0x00 ∷ 0x00 ∷ 0x05 ∷ 0x01 ∷ 0x00 ∷ 0x0A ∷ 0x00 ∷ 0x00 ∷ 0x00 ∷ []; order = 0 ∷ 0 ∷ 0 ∷ 0 ∷ []; answers = 0 ∷ 0 ∷ 0 ∷ 107 ∷ [] }
+    ∷ record {
+      table = 0x02 ∷ 0x02 ∷ 0x00 ∷ 0x08 ∷ 0x00 ∷ 0x00 ∷ 0x05 ∷ 0x01 ∷ 0x00 ∷ 0x0A ∷ 0x00 ∷ 0x00 ∷ 0x00 ∷ [];
+      order = 0 ∷ 0 ∷ 0 ∷ 0 ∷ [];
+      answers = 0 ∷ 0 ∷ 0 ∷ 107 ∷ [];
+    }
     -- Numbers that nobody has: 14, and 15 for one that has ended.
-    ∷ record { table = 0x01 ∷ 0x00 ∷ []; order = 1 ∷ 64 ∷ 255 ∷ 0 ∷ 0 ∷ []; answers = 14 ∷ 14 ∷ 14 ∷ 0 ∷ 15 ∷ [] }
+    ∷ record {
+      table = 0x01 ∷ 0x00 ∷ [];
+      order = 1 ∷ 64 ∷ 255 ∷ 0 ∷ 0 ∷ [];
+      answers = 14 ∷ 14 ∷ 14 ∷ 0 ∷ 15 ∷ [];
+    }
     ∷ []

@@ -10,3 +10,4 @@ pub mod Steps
 pub mod Runs
 pub mod Demand3
 pub mod Cases
+pub mod CasesValues
