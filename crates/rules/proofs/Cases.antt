@@ -16,9 +16,38 @@ use Rattle.rules.specs.Effects.{past, pushed, again, popped, endOf, next
 use Rattle.rules.specs.WellFormed.{isNoActivity, runBy, isPlaced, isBottom, isStacked, frameFits, stackFits, bodyFits, barrierFits, holdFits, namesFit, spawnerFits, activityFits, countsFit, activitiesFit, accumulatorsFit, wellFormed}
 use Rattle.rules.specs.Steps.{at, fault, waits, effect, refusal, exceeds, advance, unfit, startWith, start, stepWith, step, canStep, ready, registrationOn, sheetOf, registrationsNumber, registrations}
 use Rattle.rules.specs.Runs.{runFrom, answersFrom, run, answers, taken, someFault, finished}
+use Rattle.rules.specs.CasesStates.{withActs, withAccs, withCounts, change, nest, nested, pair, paired, crowd, crowded, deep, deepest, atom, standing, answersWith, breaks, allBreak, broken, answersSo, allSo, reader, reading, handMade, rowsBegin, shows, allShow, renamed, sheets}
 use Rattle.rules.specs.CasesValues.{beginsWith, leaves, allLeave, valued}
 use Rattle.rules.specs.Cases.{sameList, accepts, holdsFor, allHold, marked, answersAs, allAnswer, ownTables, own}
 
-cases-hold : allHold marked && (allHold ownTables && (allAnswer own && allLeave valued)) ≡ true
-unfolding rows rowAt opcode operandsOf commandOf rowOf width names named times held isEnd usesCell read readingsAfter readings wholes commandsOf firstBody afterEnd locate bodiesOf programOf from isPlace nameFits atomFits placing leftAfter bodyAfter verdict fitsLength fitsBodies scan sumOver tallyTo tally workOf activitiesOf clocksOf accumulatorsOf overCount numberOf someBelow allBelow countBelow bitsBelow listFrom chain holdsSome isBehind behind quiescent rest here nextOffset finishes inOwnFinish inFinishBody descends inside lendsUnheld lendsQuiesced asyncFault readFault faultFor behindOf unendedBelow unendedInside waitsFor waitsAt past pushed again popped endOf nextOf repeatOf lent child cellAfter touch touchAll effectOf withStores applied isNoActivity runBy isPlaced isBottom isStacked frameFits stackFits bodyFits barrierFits holdFits namesFit spawnerFits activityFits countsFit activitiesFit accumulatorsFit wellFormed at fault waits effect refusal exceeds advance unfit startWith start stepWith step canStep ready registrationOn sheetOf registrationsNumber registrations runFrom answersFrom run answers taken someFault finished sameList accepts holdsFor allHold marked answersAs allAnswer ownTables own beginsWith leaves allLeave valued
-cases-hold = refl
+marked-hold : allHold marked ≡ true
+unfolding rows rowAt opcode operandsOf commandOf rowOf width names named times held isEnd usesCell read readingsAfter readings wholes commandsOf firstBody afterEnd locate bodiesOf programOf from isPlace nameFits atomFits placing leftAfter bodyAfter verdict fitsLength fitsBodies scan sumOver tallyTo tally workOf activitiesOf clocksOf accumulatorsOf overCount numberOf someBelow allBelow countBelow bitsBelow listFrom chain holdsSome isBehind behind quiescent rest here nextOffset finishes inOwnFinish inFinishBody descends inside lendsUnheld lendsQuiesced asyncFault readFault faultFor behindOf unendedBelow unendedInside waitsFor waitsAt past pushed again popped endOf nextOf repeatOf lent child cellAfter touch touchAll effectOf withStores applied isNoActivity runBy isPlaced isBottom isStacked frameFits stackFits bodyFits barrierFits holdFits namesFit spawnerFits activityFits countsFit activitiesFit accumulatorsFit wellFormed at fault waits effect refusal exceeds advance unfit startWith start stepWith step canStep ready registrationOn sheetOf registrationsNumber registrations runFrom answersFrom run answers taken someFault finished sameList accepts holdsFor allHold marked answersAs allAnswer ownTables own beginsWith leaves allLeave valued withActs withAccs withCounts change nest nested pair paired crowd crowded deep deepest atom standing answersWith breaks allBreak broken answersSo allSo reader reading handMade rowsBegin shows allShow renamed sheets
+marked-hold = refl
+
+tables-hold : allHold ownTables ≡ true
+unfolding rows rowAt opcode operandsOf commandOf rowOf width names named times held isEnd usesCell read readingsAfter readings wholes commandsOf firstBody afterEnd locate bodiesOf programOf from isPlace nameFits atomFits placing leftAfter bodyAfter verdict fitsLength fitsBodies scan sumOver tallyTo tally workOf activitiesOf clocksOf accumulatorsOf overCount numberOf someBelow allBelow countBelow bitsBelow listFrom chain holdsSome isBehind behind quiescent rest here nextOffset finishes inOwnFinish inFinishBody descends inside lendsUnheld lendsQuiesced asyncFault readFault faultFor behindOf unendedBelow unendedInside waitsFor waitsAt past pushed again popped endOf nextOf repeatOf lent child cellAfter touch touchAll effectOf withStores applied isNoActivity runBy isPlaced isBottom isStacked frameFits stackFits bodyFits barrierFits holdFits namesFit spawnerFits activityFits countsFit activitiesFit accumulatorsFit wellFormed at fault waits effect refusal exceeds advance unfit startWith start stepWith step canStep ready registrationOn sheetOf registrationsNumber registrations runFrom answersFrom run answers taken someFault finished sameList accepts holdsFor allHold marked answersAs allAnswer ownTables own beginsWith leaves allLeave valued withActs withAccs withCounts change nest nested pair paired crowd crowded deep deepest atom standing answersWith breaks allBreak broken answersSo allSo reader reading handMade rowsBegin shows allShow renamed sheets
+tables-hold = refl
+
+own-answer : allAnswer own ≡ true
+unfolding rows rowAt opcode operandsOf commandOf rowOf width names named times held isEnd usesCell read readingsAfter readings wholes commandsOf firstBody afterEnd locate bodiesOf programOf from isPlace nameFits atomFits placing leftAfter bodyAfter verdict fitsLength fitsBodies scan sumOver tallyTo tally workOf activitiesOf clocksOf accumulatorsOf overCount numberOf someBelow allBelow countBelow bitsBelow listFrom chain holdsSome isBehind behind quiescent rest here nextOffset finishes inOwnFinish inFinishBody descends inside lendsUnheld lendsQuiesced asyncFault readFault faultFor behindOf unendedBelow unendedInside waitsFor waitsAt past pushed again popped endOf nextOf repeatOf lent child cellAfter touch touchAll effectOf withStores applied isNoActivity runBy isPlaced isBottom isStacked frameFits stackFits bodyFits barrierFits holdFits namesFit spawnerFits activityFits countsFit activitiesFit accumulatorsFit wellFormed at fault waits effect refusal exceeds advance unfit startWith start stepWith step canStep ready registrationOn sheetOf registrationsNumber registrations runFrom answersFrom run answers taken someFault finished sameList accepts holdsFor allHold marked answersAs allAnswer ownTables own beginsWith leaves allLeave valued withActs withAccs withCounts change nest nested pair paired crowd crowded deep deepest atom standing answersWith breaks allBreak broken answersSo allSo reader reading handMade rowsBegin shows allShow renamed sheets
+own-answer = refl
+
+values-left : allLeave valued ≡ true
+unfolding rows rowAt opcode operandsOf commandOf rowOf width names named times held isEnd usesCell read readingsAfter readings wholes commandsOf firstBody afterEnd locate bodiesOf programOf from isPlace nameFits atomFits placing leftAfter bodyAfter verdict fitsLength fitsBodies scan sumOver tallyTo tally workOf activitiesOf clocksOf accumulatorsOf overCount numberOf someBelow allBelow countBelow bitsBelow listFrom chain holdsSome isBehind behind quiescent rest here nextOffset finishes inOwnFinish inFinishBody descends inside lendsUnheld lendsQuiesced asyncFault readFault faultFor behindOf unendedBelow unendedInside waitsFor waitsAt past pushed again popped endOf nextOf repeatOf lent child cellAfter touch touchAll effectOf withStores applied isNoActivity runBy isPlaced isBottom isStacked frameFits stackFits bodyFits barrierFits holdFits namesFit spawnerFits activityFits countsFit activitiesFit accumulatorsFit wellFormed at fault waits effect refusal exceeds advance unfit startWith start stepWith step canStep ready registrationOn sheetOf registrationsNumber registrations runFrom answersFrom run answers taken someFault finished sameList accepts holdsFor allHold marked answersAs allAnswer ownTables own beginsWith leaves allLeave valued withActs withAccs withCounts change nest nested pair paired crowd crowded deep deepest atom standing answersWith breaks allBreak broken answersSo allSo reader reading handMade rowsBegin shows allShow renamed sheets
+values-left = refl
+
+states-break : allBreak broken ≡ true
+unfolding rows rowAt opcode operandsOf commandOf rowOf width names named times held isEnd usesCell read readingsAfter readings wholes commandsOf firstBody afterEnd locate bodiesOf programOf from isPlace nameFits atomFits placing leftAfter bodyAfter verdict fitsLength fitsBodies scan sumOver tallyTo tally workOf activitiesOf clocksOf accumulatorsOf overCount numberOf someBelow allBelow countBelow bitsBelow listFrom chain holdsSome isBehind behind quiescent rest here nextOffset finishes inOwnFinish inFinishBody descends inside lendsUnheld lendsQuiesced asyncFault readFault faultFor behindOf unendedBelow unendedInside waitsFor waitsAt past pushed again popped endOf nextOf repeatOf lent child cellAfter touch touchAll effectOf withStores applied isNoActivity runBy isPlaced isBottom isStacked frameFits stackFits bodyFits barrierFits holdFits namesFit spawnerFits activityFits countsFit activitiesFit accumulatorsFit wellFormed at fault waits effect refusal exceeds advance unfit startWith start stepWith step canStep ready registrationOn sheetOf registrationsNumber registrations runFrom answersFrom run answers taken someFault finished sameList accepts holdsFor allHold marked answersAs allAnswer ownTables own beginsWith leaves allLeave valued withActs withAccs withCounts change nest nested pair paired crowd crowded deep deepest atom standing answersWith breaks allBreak broken answersSo allSo reader reading handMade rowsBegin shows allShow renamed sheets
+states-break = refl
+
+states-answer : allSo handMade ≡ true
+unfolding rows rowAt opcode operandsOf commandOf rowOf width names named times held isEnd usesCell read readingsAfter readings wholes commandsOf firstBody afterEnd locate bodiesOf programOf from isPlace nameFits atomFits placing leftAfter bodyAfter verdict fitsLength fitsBodies scan sumOver tallyTo tally workOf activitiesOf clocksOf accumulatorsOf overCount numberOf someBelow allBelow countBelow bitsBelow listFrom chain holdsSome isBehind behind quiescent rest here nextOffset finishes inOwnFinish inFinishBody descends inside lendsUnheld lendsQuiesced asyncFault readFault faultFor behindOf unendedBelow unendedInside waitsFor waitsAt past pushed again popped endOf nextOf repeatOf lent child cellAfter touch touchAll effectOf withStores applied isNoActivity runBy isPlaced isBottom isStacked frameFits stackFits bodyFits barrierFits holdFits namesFit spawnerFits activityFits countsFit activitiesFit accumulatorsFit wellFormed at fault waits effect refusal exceeds advance unfit startWith start stepWith step canStep ready registrationOn sheetOf registrationsNumber registrations runFrom answersFrom run answers taken someFault finished sameList accepts holdsFor allHold marked answersAs allAnswer ownTables own beginsWith leaves allLeave valued withActs withAccs withCounts change nest nested pair paired crowd crowded deep deepest atom standing answersWith breaks allBreak broken answersSo allSo reader reading handMade rowsBegin shows allShow renamed sheets
+states-answer = refl
+
+sheets-show : allShow sheets ≡ true
+unfolding rows rowAt opcode operandsOf commandOf rowOf width names named times held isEnd usesCell read readingsAfter readings wholes commandsOf firstBody afterEnd locate bodiesOf programOf from isPlace nameFits atomFits placing leftAfter bodyAfter verdict fitsLength fitsBodies scan sumOver tallyTo tally workOf activitiesOf clocksOf accumulatorsOf overCount numberOf someBelow allBelow countBelow bitsBelow listFrom chain holdsSome isBehind behind quiescent rest here nextOffset finishes inOwnFinish inFinishBody descends inside lendsUnheld lendsQuiesced asyncFault readFault faultFor behindOf unendedBelow unendedInside waitsFor waitsAt past pushed again popped endOf nextOf repeatOf lent child cellAfter touch touchAll effectOf withStores applied isNoActivity runBy isPlaced isBottom isStacked frameFits stackFits bodyFits barrierFits holdFits namesFit spawnerFits activityFits countsFit activitiesFit accumulatorsFit wellFormed at fault waits effect refusal exceeds advance unfit startWith start stepWith step canStep ready registrationOn sheetOf registrationsNumber registrations runFrom answersFrom run answers taken someFault finished sameList accepts holdsFor allHold marked answersAs allAnswer ownTables own beginsWith leaves allLeave valued withActs withAccs withCounts change nest nested pair paired crowd crowded deep deepest atom standing answersWith breaks allBreak broken answersSo allSo reader reading handMade rowsBegin shows allShow renamed sheets
+sheets-show = refl
+
+-- Every case of every list.
+pub cases-hold : allHold marked && (allHold ownTables && (allAnswer own && (allLeave valued && (allBreak broken && (allSo handMade && allShow sheets))))) ≡ true
+cases-hold = rw (marked-hold, tables-hold, own-answer, values-left, states-break, states-answer, sheets-show)

@@ -11,3 +11,4 @@ pub mod Runs
 pub mod Demand3
 pub mod Cases
 pub mod CasesValues
+pub mod CasesStates
