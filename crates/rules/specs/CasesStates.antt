@@ -37,6 +37,10 @@ owned i = record { value = 0; owner = i; operator = Sum }
 abbrev withFrame : ℕ → Frame → Activity → Activity
 withFrame d f a = withFrames a (a .depth) (set (a .frames) d f)
 
+-- A single body on the stack.
+abbrev onBody : Frame → Activity → Activity
+onBody f a = withFrames a 1 (f ∷ replicate 15 noFrame)
+
 abbrev withHold : ℕ → Hold → Activity → Activity
 withHold k h a = withHolds a (a .status) (set (a .holds) k h)
 
@@ -102,14 +106,16 @@ unfoldable pub nest : List ℕ
 nest = 0x03 ∷ 0x06 ∷ 0x01 ∷ 0x00 ∷ 0x07 ∷ 0x02 ∷ 0x02 ∷ 0x00 ∷ 0x00 ∷ []
 
 unfoldable pub nested : State
-nested = run base nest (0 ∷ 0 ∷ [])
+nested = withCounts 2 1 0 0 (change 0 (λ a. withFrames a 3 (frameAt 0 0 0 0 ∷ frameAt 0 1 0 1 ∷ frameAt 0 2 2 0 ∷ replicate 13 noFrame)) startState)
 
 -- The printed example; main waits for its child at a barrier of clock 0.
 unfoldable pub pair : List ℕ
 pair = 0x02 ∷ 0x02 ∷ 0x00 ∷ 0x05 ∷ 0x01 ∷ 0x01 ∷ 0x01 ∷ 0x00 ∷ 0x01 ∷ 0x00 ∷ []
 
 unfoldable pub paired : State
-paired = run base pair (0 ∷ 0 ∷ 0 ∷ [])
+paired =
+    withCounts 3 2 1 0 (change 1 (λ a. withHold 0 (holdOn 0 0 Live) (onBody (frameAt 0 1 0 0) a))
+    (change 0 (λ a. withStatus AtBarrier (withHold 0 (holdOn 0 0 Quiesced) (onBody (frameAt 5 0 0 0) a))) startState))
 
 -- ASYNC of a body without clocks; main before it, with sixty-three others that have ended.
 unfoldable pub crowd : List ℕ
@@ -134,7 +140,7 @@ unfoldable pub atom : List ℕ
 atom = 0x01 ∷ 0x10 ∷ 0x01 ∷ 0x0D ∷ 0x00 ∷ 0x00 ∷ []
 
 unfoldable pub standing : ℕ → State
-standing offset = change 0 (withFrame 0 (frameAt offset 0 0 0)) startState
+standing offset = change 0 (onBody (frameAt offset 0 0 0)) startState
 
 -- NUMBER 13
 
@@ -244,7 +250,7 @@ reader = 0x02 ∷ 0x0A ∷ 0x00 ∷ 0x00 ∷ 0x00 ∷ []
 
 unfoldable pub reading : (Activity → Activity) → State
 reading f =
-    withCounts 0 2 0 1 (change 1 (λ a. withFrames a 1 (frameAt 0 1 0 0 ∷ replicate 15 noFrame)) (change 0 (λ a. withNames (f a) (1 ∷ replicate 7 0)) startState))
+    withCounts 0 2 0 1 (change 1 (onBody (frameAt 0 1 0 0)) (change 0 (λ a. withNames (f a) (1 ∷ replicate 7 0)) startState))
 
 unfoldable pub handMade : List Handed
 handMade =
@@ -297,7 +303,7 @@ renamed = 0x01 ∷ 0x02 ∷ 0x00 ∷ 0x04 ∷ 0x00 ∷ 0x02 ∷ 0x03 ∷ 0x00 �
 
 unfoldable pub sheets : List Sheet
 sheets =
-    record { table = pair; state = paired; rows = (2 ∷ []) ∷ (1 ∷ []) ∷ [] }
+    record { table = pair; state = run base pair (0 ∷ 0 ∷ 0 ∷ []); rows = (2 ∷ []) ∷ (1 ∷ []) ∷ [] }
     -- By clock number and not by name.
     ∷ record { table = renamed; state = run base renamed (0 ∷ 0 ∷ 0 ∷ []); rows = (0 ∷ 1 ∷ []) ∷ [] }
     -- "a standing sheet of zeros"
