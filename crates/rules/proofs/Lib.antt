@@ -3,3 +3,4 @@ pub mod Search
 pub mod Sums
 pub mod Lists
 mod Cases
+mod WrongMachines
