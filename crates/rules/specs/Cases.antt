@@ -9,7 +9,8 @@ use Rattle.program.specs.Count.{workOf, activitiesOf}
 use Rattle.rules.specs.declared.answer.Answer.{Answer}
 use Rattle.rules.specs.Search.{countBelow}
 use Rattle.rules.specs.State.{answerNumber, ended}
-use Rattle.rules.specs.Steps.{base, start}
+use Rattle.rules.specs.declared.state.State.{State}
+use Rattle.rules.specs.Steps.{base, startState, start, step}
 use Rattle.rules.specs.Runs.{run, answers}
 
 -- The start's answer; the work and the activities counted; the steps' answers; at the end the steps taken, the activities ended and those spawned.
@@ -95,9 +96,14 @@ pub record Answered : Type 0 where
   pub order : List ℕ
   pub answers : List ℕ
 
+-- The answers of one step after another.
+unfoldable pub trace : List ℕ → State → List ℕ → List ℕ
+trace t s [] = []
+trace t s (i ∷ order) = let r = step base t s i in answerNumber (r .answer) ∷ trace t (r .state) order
+
 unfoldable pub answersAs : Answered → Bool
 answersAs c =
-    let same = sameList (map answerNumber (answers base (c .table) (c .order))) (c .answers) in
+    let same = sameList (trace (c .table) startState (c .order)) (c .answers) in
     eqb (answerNumber (start base (c .table) .answer)) 0 && same
 
 unfoldable pub allAnswer : List Answered → Bool

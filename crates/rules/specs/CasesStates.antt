@@ -150,13 +150,9 @@ pub record Broken : Type 0 where
   pub fit : State
   pub unfit : State
 
--- The step, the ready set and its number.
-unfoldable pub answersWith : List ℕ → State → ℕ → ℕ → ℕ → ℕ → Bool
-answersWith t s i answer number set =
-    eqb (answerNumber (step base t s i .answer)) answer && (eqb (ready base t s .number) number && eqb (ready base t s .set) set)
-
+-- The second is turned down with 13, the first is not.
 unfoldable pub breaks : Broken → Bool
-breaks c = eqb (ready base (c .table) (c .fit) .number) 0 && answersWith (c .table) (c .unfit) 0 13 13 0
+breaks c = eqb (ready base (c .table) (c .fit) .number) 0 && eqb (answerNumber (step base (c .table) (c .unfit) 0 .answer)) 13
 
 unfoldable pub allBreak : List Broken → Bool
 allBreak [] = true
@@ -226,6 +222,7 @@ broken =
 
 -- NUMBERS 14 TO 17, AND THE READY SET
 
+-- What is answered to a step of the activity, and the ready set with its number.
 pub record Handed : Type 0 where
   pub table : List ℕ
   pub state : State
@@ -235,7 +232,9 @@ pub record Handed : Type 0 where
   pub set : ℕ
 
 unfoldable pub answersSo : Handed → Bool
-answersSo c = answersWith (c .table) (c .state) (c .activity) (c .answer) (c .number) (c .set)
+answersSo c =
+    let r = ready base (c .table) (c .state) in
+    eqb (answerNumber (step base (c .table) (c .state) (c .activity) .answer)) (c .answer) && (eqb (r .number) (c .number) && eqb (r .set) (c .set))
 
 unfoldable pub allSo : List Handed → Bool
 allSo [] = true
