@@ -2,8 +2,8 @@
 use Prim.Native.Nat.{ℕ, _+_}
 use native.Mathlib.Omega.{arith}
 use mathlib.Core.List.{List, [], _∷_}
-use mathlib.Core.Bool.{Bool, true, false, cond}
-use mathlib.Core.Path.{_≡_, ap, sym, _∙_}
+use mathlib.Core.Bool.{cond}
+use mathlib.Core.Path.{_≡_, ap}
 use lib.Dec.{eqb}
 use Rattle.program.specs.Bodies.{programOf}
 use Rattle.program.specs.Count.{workOf}
@@ -12,7 +12,6 @@ use Rattle.rules.specs.declared.state.Status.the-variants.{Running}
 use Rattle.rules.specs.declared.state.State.{State}
 use Rattle.rules.specs.declared.answer.Answer.the-variants.{Accepted, Refused}
 use Rattle.rules.specs.declared.answer.Stepped.{Stepped}
-use Rattle.rules.specs.declared.answer.Ready.{Ready}
 use Rattle.rules.specs.State.{answerNumber}
 use Rattle.rules.specs.Steps.{base, startState, stepped, step, ready}
 use Rattle.rules.specs.Runs.{run, answers, taken}

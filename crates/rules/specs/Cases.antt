@@ -1,16 +1,14 @@
 -- The cases of document 01 marked P, and cases of our own, each a table with an order and what is expected.
-use Prim.Native.Nat.{ℕ, zero, suc, _+_}
+use Prim.Native.Nat.{ℕ}
 use mathlib.Core.List.{List, [], _∷_, map}
 use mathlib.Core.Bool.{Bool, true, false, cond, _&&_}
-use lib.ListN.{length}
 use lib.Dec.{eqb}
-use Rattle.program.specs.Bodies.{programOf}
+use Rattle.program.specs.Bodies.{Program, programOf}
 use Rattle.program.specs.Count.{workOf, activitiesOf}
-use Rattle.rules.specs.declared.answer.Answer.{Answer}
 use Rattle.rules.specs.Search.{countBelow}
 use Rattle.rules.specs.State.{answerNumber, ended}
 use Rattle.rules.specs.declared.state.State.{State}
-use Rattle.rules.specs.Steps.{base, startState, start, step}
+use Rattle.rules.specs.Steps.{base, startState, start, advance}
 use Rattle.rules.specs.Runs.{run, answers}
 
 -- The start's answer; the work and the activities counted; the steps' answers; at the end the steps taken, the activities ended and those spawned.
@@ -96,14 +94,18 @@ pub record Answered : Type 0 where
   pub order : List ℕ
   pub answers : List ℕ
 
--- The answers of one step after another.
-unfoldable pub trace : List ℕ → State → List ℕ → List ℕ
-trace t s [] = []
-trace t s (i ∷ order) = let r = step base t s i in answerNumber (r .answer) ∷ trace t (r .state) order
+-- The steps of a run without the test of number 13, which the cases marked P take in full: the answers, and the state at the end.
+unfoldable pub answersBy : Program → State → List ℕ → List ℕ
+answersBy p s [] = []
+answersBy p s (i ∷ order) = let r = advance base p s i in answerNumber (r .answer) ∷ answersBy p (r .state) order
+
+unfoldable pub stateBy : Program → State → List ℕ → State
+stateBy p s [] = s
+stateBy p s (i ∷ order) = stateBy p (advance base p s i .state) order
 
 unfoldable pub answersAs : Answered → Bool
 answersAs c =
-    let same = sameList (trace (c .table) startState (c .order)) (c .answers) in
+    let same = sameList (answersBy (programOf (c .table)) startState (c .order)) (c .answers) in
     eqb (answerNumber (start base (c .table) .answer)) 0 && same
 
 unfoldable pub allAnswer : List Answered → Bool

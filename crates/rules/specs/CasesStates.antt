@@ -1,6 +1,6 @@
 -- Cases of our own: states made by hand. Number 13 clause by clause, 14 to 17, the ready set and the sheet.
-use Prim.Native.Nat.{ℕ, zero, suc, _+_}
-use mathlib.Core.List.{List, [], _∷_, _++_}
+use Prim.Native.Nat.{ℕ, zero, suc}
+use mathlib.Core.List.{List, [], _∷_}
 use mathlib.Core.Bool.{Bool, true, false, _&&_}
 use lib.ListN.{length, set, replicate}
 use lib.Dec.{eqb}

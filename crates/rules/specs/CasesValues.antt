@@ -1,14 +1,14 @@
 -- Cases of our own: hands, cells and the values of accumulators at the end of a run.
-use Prim.Native.Nat.{ℕ, zero, suc}
+use Prim.Native.Nat.{ℕ}
 use mathlib.Core.List.{List, [], _∷_}
 use mathlib.Core.Bool.{Bool, true, false, _&&_}
 use lib.Dec.{eqb}
+use Rattle.program.specs.Bodies.{programOf}
 use Rattle.rules.specs.declared.state.State.{State}
 use Rattle.rules.specs.Search.{listFrom}
 use Rattle.rules.specs.State.{act, accumulator}
-use Rattle.rules.specs.Steps.{base}
-use Rattle.rules.specs.Runs.{run}
-use Rattle.rules.specs.Cases.{sameList}
+use Rattle.rules.specs.Steps.{startState}
+use Rattle.rules.specs.Cases.{sameList, stateBy}
 
 -- The spawned activities' hands, the first cells (the others are 0), and the made accumulators' values.
 pub record Valued : Type 0 where
@@ -32,7 +32,7 @@ leaves s c =
 
 unfoldable pub allLeave : List Valued → Bool
 allLeave [] = true
-allLeave (c ∷ cs) = let r = allLeave cs in leaves (run base (c .table) (c .order)) c && r
+allLeave (c ∷ cs) = let r = allLeave cs in leaves (stateBy (programOf (c .table)) startState (c .order)) c && r
 
 unfoldable pub valued : List Valued
 valued =
