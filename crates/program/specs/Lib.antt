@@ -5,4 +5,3 @@ pub mod Scan
 pub mod Count
 pub mod Table
 pub mod Places
-pub mod Cases

@@ -1,6 +1,6 @@
 -- The cases hold: computed from the rules.
 use mathlib.Core.Path.{_≡_, refl}
-use mathlib.Core.Bool.{true}
+use mathlib.Core.Bool.{Bool, true, _&&_}
 use Rattle.program.specs.Command.{rows, rowAt, opcode, operandsOf, commandOf, rowOf, width, names, named, times, held, isEnd, usesCell}
 use Rattle.program.specs.Reading.{read, readingsAfter, readings, wholes, commandsOf}
 use Rattle.program.specs.Bodies.{firstBody, afterEnd, locate, bodiesOf, programOf, from, isPlace}
@@ -16,8 +16,43 @@ use Rattle.rules.specs.Effects.{past, pushed, again, popped, endOf, next
 use Rattle.rules.specs.WellFormed.{isNoActivity, runBy, isPlaced, isBottom, isStacked, frameFits, stackFits, bodyFits, barrierFits, holdFits, namesFit, spawnerFits, activityFits, countsFit, activitiesFit, accumulatorsFit, wellFormed}
 use Rattle.rules.specs.Steps.{at, fault, waits, effect, refusal, exceeds, advance, unfit, startWith, start, stepWith, step, canStep, ready, registrationOn, sheetOf, registrationsNumber, registrations}
 use Rattle.rules.specs.Runs.{runFrom, answersFrom, run, answers, taken, someFault, finished}
-use Rattle.rules.specs.Cases.{sameList, accepts, holdsFor, allHold, marked}
+use Rattle.rules.specs.CasesStates.{withActs, withAccs, withCounts, change, nest, nested, pair, paired, crowd, crowded, deep, deepest, atom, standing, breaks, allBreak, broken, answersSo, allSo, reader, reading, handMade, rowsBegin, shows, allShow, renamed, sheets}
+use Rattle.rules.specs.CasesValues.{beginsWith, leaves, allLeave, valued}
+use Rattle.rules.specs.Cases.{sameList, accepts, holdsFor, allHold, marked, answersBy, stateBy, answersAs, allAnswer, ownTables, own}
+
+-- To name this on an `unfolding` line is to open the rules and the cases, for computing with them.
+unfoldable pub opened : Bool
+unfolding rows rowAt opcode operandsOf commandOf rowOf width names named times held isEnd usesCell read readingsAfter readings wholes commandsOf firstBody afterEnd locate bodiesOf programOf from isPlace nameFits atomFits placing leftAfter bodyAfter verdict fitsLength fitsBodies scan sumOver tallyTo tally workOf activitiesOf clocksOf accumulatorsOf overCount numberOf someBelow allBelow countBelow bitsBelow listFrom chain holdsSome isBehind behind quiescent rest here nextOffset finishes inOwnFinish inFinishBody descends inside lendsUnheld lendsQuiesced asyncFault readFault faultFor behindOf unendedBelow unendedInside waitsFor waitsAt past pushed again popped endOf nextOf repeatOf lent child cellAfter touch touchAll effectOf withStores applied isNoActivity runBy isPlaced isBottom isStacked frameFits stackFits bodyFits barrierFits holdFits namesFit spawnerFits activityFits countsFit activitiesFit accumulatorsFit wellFormed at fault waits effect refusal exceeds advance unfit startWith start stepWith step canStep ready registrationOn sheetOf registrationsNumber registrations runFrom answersFrom run answers taken someFault finished sameList accepts holdsFor allHold marked answersBy stateBy answersAs allAnswer ownTables own beginsWith leaves allLeave valued withActs withAccs withCounts change nest nested pair paired crowd crowded deep deepest atom standing breaks allBreak broken answersSo allSo reader reading handMade rowsBegin shows allShow renamed sheets
+opened = true
 
 marked-hold : allHold marked ≡ true
-unfolding rows rowAt opcode operandsOf commandOf rowOf width names named times held isEnd usesCell read readingsAfter readings wholes commandsOf firstBody afterEnd locate bodiesOf programOf from isPlace nameFits atomFits placing leftAfter bodyAfter verdict fitsLength fitsBodies scan sumOver tallyTo tally workOf activitiesOf clocksOf accumulatorsOf overCount numberOf someBelow allBelow countBelow bitsBelow listFrom chain holdsSome isBehind behind quiescent rest here nextOffset finishes inOwnFinish inFinishBody descends inside lendsUnheld lendsQuiesced asyncFault readFault faultFor behindOf unendedBelow unendedInside waitsFor waitsAt past pushed again popped endOf nextOf repeatOf lent child cellAfter touch touchAll effectOf withStores applied isNoActivity runBy isPlaced isBottom isStacked frameFits stackFits bodyFits barrierFits holdFits namesFit spawnerFits activityFits countsFit activitiesFit accumulatorsFit wellFormed at fault waits effect refusal exceeds advance unfit startWith start stepWith step canStep ready registrationOn sheetOf registrationsNumber registrations runFrom answersFrom run answers taken someFault finished sameList accepts holdsFor allHold marked
+unfolding opened
 marked-hold = refl
+
+tables-hold : allHold ownTables ≡ true
+unfolding opened
+tables-hold = refl
+
+own-answer : allAnswer own ≡ true
+unfolding opened
+own-answer = refl
+
+values-left : allLeave valued ≡ true
+unfolding opened
+values-left = refl
+
+states-break : allBreak broken ≡ true
+unfolding opened
+states-break = refl
+
+states-answer : allSo handMade ≡ true
+unfolding opened
+states-answer = refl
+
+sheets-show : allShow sheets ≡ true
+unfolding opened
+sheets-show = refl
+
+-- Every case of every list.
+pub cases-hold : allHold marked && (allHold ownTables && (allAnswer own && (allLeave valued && (allBreak broken && (allSo handMade && allShow sheets))))) ≡ true
+cases-hold = rw (marked-hold, tables-hold, own-answer, values-left, states-break, states-answer, sheets-show)

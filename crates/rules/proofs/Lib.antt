@@ -39,3 +39,4 @@ pub mod Demand3
 pub mod Runs
 mod Cases
 mod HistoryCases
+mod WrongMachines

@@ -1,15 +1,14 @@
--- The cases of document 01 marked P, and cases of our own, as one table: a table with an order, and what is expected.
-use Prim.Native.Nat.{ℕ, zero, suc, _+_}
+-- The cases of document 01 marked P, and cases of our own, each a table with an order and what is expected.
+use Prim.Native.Nat.{ℕ}
 use mathlib.Core.List.{List, [], _∷_, map}
 use mathlib.Core.Bool.{Bool, true, false, cond, _&&_}
-use lib.ListN.{length}
 use lib.Dec.{eqb}
-use Rattle.program.specs.Bodies.{programOf}
+use Rattle.program.specs.Bodies.{Program, programOf}
 use Rattle.program.specs.Count.{workOf, activitiesOf}
-use Rattle.rules.specs.declared.answer.Answer.{Answer}
 use Rattle.rules.specs.Search.{countBelow}
 use Rattle.rules.specs.State.{answerNumber, ended}
-use Rattle.rules.specs.Steps.{base, start}
+use Rattle.rules.specs.declared.state.State.{State}
+use Rattle.rules.specs.Steps.{base, startState, start, advance}
 use Rattle.rules.specs.Runs.{run, answers}
 
 -- The start's answer; the work and the activities counted; the steps' answers; at the end the steps taken, the activities ended and those spawned.
@@ -84,5 +83,184 @@ marked =
       table = 0x03 ∷ 0x02 ∷ 0x00 ∷ 0x06 ∷ 0x01 ∷ 0x00 ∷ 0x05 ∷ 0x02 ∷ 0x01 ∷ 0x00 ∷ 0x01 ∷ 0x00 ∷ [];
       order = 0 ∷ 0 ∷ 0 ∷ [];
       expected = record { number = 0; work = 8; activities = 2; answers = 0 ∷ 0 ∷ 103 ∷ []; taken = 3; ended = 1; spawned = 1 };
+    }
+    ∷ []
+
+-- OUR OWN
+
+-- An accepted table with an order, and the steps' answers.
+pub record Answered : Type 0 where
+  pub table : List ℕ
+  pub order : List ℕ
+  pub answers : List ℕ
+
+-- The steps of a run without the test of number 13, which the cases marked P take in full: the answers, and the state at the end.
+unfoldable pub answersBy : Program → State → List ℕ → List ℕ
+answersBy p s [] = []
+answersBy p s (i ∷ order) = let r = advance base p s i in answerNumber (r .answer) ∷ answersBy p (r .state) order
+
+unfoldable pub stateBy : Program → State → List ℕ → State
+stateBy p s [] = s
+stateBy p s (i ∷ order) = stateBy p (advance base p s i .state) order
+
+unfoldable pub answersAs : Answered → Bool
+answersAs c =
+    let same = sameList (answersBy (programOf (c .table)) startState (c .order)) (c .answers) in
+    eqb (answerNumber (start base (c .table) .answer)) 0 && same
+
+unfoldable pub allAnswer : List Answered → Bool
+allAnswer [] = true
+allAnswer (c ∷ cs) = let r = allAnswer cs in answersAs c && r
+
+-- Each of the k commands after ATOM is a command in turn: 3 to 6 are tried for it, and then 7.
+unfoldable pub ownTables : List Case
+ownTables =
+    turnedDown (0x01 ∷ 0x10 ∷ 0x01 ∷ 0x11 ∷ []) 3
+    ∷ turnedDown (0x01 ∷ 0x10 ∷ 0x01 ∷ 0x05 ∷ []) 4
+    ∷ turnedDown (0x01 ∷ 0x10 ∷ 0x01 ∷ 0x02 ∷ 0x09 ∷ 0x00 ∷ []) 5
+    ∷ turnedDown (0x01 ∷ 0x10 ∷ 0x01 ∷ 0x06 ∷ 0x00 ∷ 0x00 ∷ []) 6
+    ∷ []
+
+unfoldable pub own : List Answered
+own =
+    -- "Passing .. makes each live": ASYNC of a clock after a NEXT.
+    record {
+      table = 0x02 ∷ 0x02 ∷ 0x00 ∷ 0x01 ∷ 0x05 ∷ 0x01 ∷ 0x01 ∷ 0x00 ∷ 0x00 ∷ [];
+      order = 0 ∷ 0 ∷ 0 ∷ 0 ∷ [];
+      answers = 0 ∷ 0 ∷ 0 ∷ 0 ∷ [];
+    }
+    -- The END of a FINISH body waits for a grandchild whose spawner has ended.
+    ∷ record {
+      table = 0x04 ∷ 0x06 ∷ 0x01 ∷ 0x00 ∷ 0x05 ∷ 0x02 ∷ 0x00 ∷ 0x00 ∷ 0x05 ∷ 0x03 ∷ 0x00 ∷ 0x00 ∷ 0x00 ∷ [];
+      order = 0 ∷ 0 ∷ 1 ∷ 1 ∷ 0 ∷ 2 ∷ 0 ∷ 0 ∷ [];
+      answers = 0 ∷ 0 ∷ 0 ∷ 0 ∷ 16 ∷ 0 ∷ 0 ∷ 0 ∷ [];
+    }
+    -- READ waits for a grandchild whose spawner has ended; so does RESET.
+    ∷ record {
+      table = 0x03 ∷ 0x08 ∷ 0x00 ∷ 0x00 ∷ 0x05 ∷ 0x01 ∷ 0x00 ∷ 0x0A ∷ 0x00 ∷ 0x00 ∷ 0x05 ∷ 0x02 ∷ 0x00 ∷ 0x00 ∷ 0x00 ∷ [];
+      order = 0 ∷ 0 ∷ 1 ∷ 1 ∷ 0 ∷ 2 ∷ 0 ∷ 0 ∷ [];
+      answers = 0 ∷ 0 ∷ 0 ∷ 0 ∷ 16 ∷ 0 ∷ 0 ∷ 0 ∷ [];
+    }
+    ∷ record {
+      table = 0x03 ∷ 0x08 ∷ 0x00 ∷ 0x00 ∷ 0x05 ∷ 0x01 ∷ 0x00 ∷ 0x0B ∷ 0x00 ∷ 0x00 ∷ 0x05 ∷ 0x02 ∷ 0x00 ∷ 0x00 ∷ 0x00 ∷ [];
+      order = 0 ∷ 0 ∷ 1 ∷ 1 ∷ 0 ∷ 2 ∷ 0 ∷ 0 ∷ [];
+      answers = 0 ∷ 0 ∷ 0 ∷ 0 ∷ 16 ∷ 0 ∷ 0 ∷ 0 ∷ [];
+    }
+    -- A child from before the finish is not inside.
+    ∷ record {
+      table = 0x03 ∷ 0x05 ∷ 0x02 ∷ 0x00 ∷ 0x06 ∷ 0x01 ∷ 0x00 ∷ 0x00 ∷ 0x00 ∷ [];
+      order = 0 ∷ 0 ∷ 0 ∷ 0 ∷ 1 ∷ [];
+      answers = 0 ∷ 0 ∷ 0 ∷ 0 ∷ 0 ∷ [];
+    }
+    -- "With no clocks it never waits."
+    ∷ record {
+      table = 0x01 ∷ 0x01 ∷ 0x00 ∷ [];
+      order = 0 ∷ 0 ∷ 0 ∷ 0 ∷ [];
+      answers = 0 ∷ 0 ∷ 0 ∷ 15 ∷ [];
+    }
+    -- A dropped clock holds nobody up: the child drops it, and then main passes.
+    ∷ record {
+      table = 0x02 ∷ 0x02 ∷ 0x00 ∷ 0x05 ∷ 0x01 ∷ 0x01 ∷ 0x01 ∷ 0x00 ∷ 0x04 ∷ 0x00 ∷ 0x00 ∷ [];
+      order = 0 ∷ 0 ∷ 0 ∷ 0 ∷ 1 ∷ 0 ∷ 0 ∷ [];
+      answers = 0 ∷ 0 ∷ 0 ∷ 16 ∷ 0 ∷ 0 ∷ 0 ∷ [];
+    }
+    -- A holder that resumed holds nobody up, and meets at the same phase later.
+    ∷ record {
+      table = 0x02 ∷ 0x02 ∷ 0x00 ∷ 0x05 ∷ 0x01 ∷ 0x01 ∷ 0x01 ∷ 0x00 ∷ 0x03 ∷ 0x00 ∷ 0x01 ∷ 0x00 ∷ [];
+      order = 0 ∷ 0 ∷ 0 ∷ 0 ∷ 1 ∷ 0 ∷ 1 ∷ 1 ∷ 1 ∷ [];
+      answers = 0 ∷ 0 ∷ 0 ∷ 16 ∷ 0 ∷ 0 ∷ 0 ∷ 0 ∷ 0 ∷ [];
+    }
+    -- "no holder is in an earlier phase": a slow holder, quiesced in the phase before, is waited for.
+    ∷ record {
+      table = 0x02 ∷ 0x02 ∷ 0x00 ∷ 0x05 ∷ 0x01 ∷ 0x01 ∷ 0x01 ∷ 0x01 ∷ 0x00 ∷ 0x01 ∷ 0x01 ∷ 0x00 ∷ [];
+      order = 0 ∷ 0 ∷ 0 ∷ 1 ∷ 0 ∷ 0 ∷ 0 ∷ 1 ∷ 1 ∷ 0 ∷ [];
+      answers = 0 ∷ 0 ∷ 0 ∷ 0 ∷ 0 ∷ 0 ∷ 16 ∷ 0 ∷ 0 ∷ 0 ∷ [];
+    }
+    -- "END of a REPEAT body runs it again until n runs are done. REPEAT 0 takes one step and runs nothing."
+    ∷ record {
+      table = 0x02 ∷ 0x07 ∷ 0x02 ∷ 0x01 ∷ 0x00 ∷ 0x00 ∷ [];
+      order = 0 ∷ 0 ∷ 0 ∷ 0 ∷ 0 ∷ [];
+      answers = 0 ∷ 0 ∷ 0 ∷ 0 ∷ 15 ∷ [];
+    }
+    ∷ record {
+      table = 0x02 ∷ 0x07 ∷ 0x00 ∷ 0x01 ∷ 0x00 ∷ 0x00 ∷ [];
+      order = 0 ∷ 0 ∷ 0 ∷ [];
+      answers = 0 ∷ 0 ∷ 15 ∷ [];
+    }
+    -- F1 of RESUME, DROP and ASYNC. A faulted activity counts as ended, and its clocks are dropped.
+    ∷ record {
+      table = 0x01 ∷ 0x03 ∷ 0x00 ∷ 0x00 ∷ [];
+      order = 0 ∷ 0 ∷ [];
+      answers = 101 ∷ 15 ∷ [];
+    }
+    ∷ record {
+      table = 0x01 ∷ 0x04 ∷ 0x00 ∷ 0x00 ∷ [];
+      order = 0 ∷ [];
+      answers = 101 ∷ [];
+    }
+    ∷ record {
+      table = 0x02 ∷ 0x02 ∷ 0x00 ∷ 0x05 ∷ 0x01 ∷ 0x01 ∷ 0x01 ∷ 0x00 ∷ 0x03 ∷ 0x01 ∷ 0x00 ∷ [];
+      order = 0 ∷ 0 ∷ 0 ∷ 0 ∷ 1 ∷ 0 ∷ 0 ∷ [];
+      answers = 0 ∷ 0 ∷ 0 ∷ 16 ∷ 101 ∷ 0 ∷ 0 ∷ [];
+    }
+    ∷ record {
+      table = 0x02 ∷ 0x05 ∷ 0x01 ∷ 0x01 ∷ 0x00 ∷ 0x00 ∷ [];
+      order = 0 ∷ [];
+      answers = 101 ∷ [];
+    }
+    -- F2; F3 before F1; F4.
+    ∷ record {
+      table = 0x02 ∷ 0x02 ∷ 0x00 ∷ 0x03 ∷ 0x00 ∷ 0x05 ∷ 0x01 ∷ 0x01 ∷ 0x00 ∷ 0x00 ∷ [];
+      order = 0 ∷ 0 ∷ 0 ∷ [];
+      answers = 0 ∷ 0 ∷ 102 ∷ [];
+    }
+    ∷ record {
+      table = 0x03 ∷ 0x06 ∷ 0x01 ∷ 0x00 ∷ 0x05 ∷ 0x02 ∷ 0x01 ∷ 0x00 ∷ 0x00 ∷ [];
+      order = 0 ∷ 0 ∷ [];
+      answers = 0 ∷ 103 ∷ [];
+    }
+    ∷ record {
+      table = 0x01 ∷ 0x02 ∷ 0x00 ∷ 0x02 ∷ 0x00 ∷ 0x00 ∷ [];
+      order = 0 ∷ 0 ∷ [];
+      answers = 0 ∷ 104 ∷ [];
+    }
+    -- F5 of OFFER, READ and RESET.
+    ∷ record {
+      table = 0x01 ∷ 0x09 ∷ 0x00 ∷ 0x00 ∷ [];
+      order = 0 ∷ [];
+      answers = 105 ∷ [];
+    }
+    ∷ record {
+      table = 0x01 ∷ 0x0A ∷ 0x00 ∷ 0x00 ∷ [];
+      order = 0 ∷ [];
+      answers = 105 ∷ [];
+    }
+    ∷ record {
+      table = 0x01 ∷ 0x0B ∷ 0x00 ∷ 0x00 ∷ [];
+      order = 0 ∷ [];
+      answers = 105 ∷ [];
+    }
+    -- F6 of READ and RESET, before F7.
+    ∷ record {
+      table = 0x02 ∷ 0x02 ∷ 0x00 ∷ 0x08 ∷ 0x00 ∷ 0x00 ∷ 0x05 ∷ 0x01 ∷ 0x01 ∷ 0x00 ∷ 0x0A ∷ 0x00 ∷ 0x00 ∷ [];
+      order = 0 ∷ 0 ∷ 0 ∷ 1 ∷ [];
+      answers = 0 ∷ 0 ∷ 0 ∷ 106 ∷ [];
+    }
+    ∷ record {
+      table = 0x02 ∷ 0x08 ∷ 0x00 ∷ 0x00 ∷ 0x05 ∷ 0x01 ∷ 0x00 ∷ 0x00 ∷ 0x0B ∷ 0x00 ∷ 0x00 ∷ [];
+      order = 0 ∷ 0 ∷ 1 ∷ [];
+      answers = 0 ∷ 0 ∷ 106 ∷ [];
+    }
+    -- F7, "Faults come before waiting."
+    ∷ record {
+      table = 0x02 ∷ 0x02 ∷ 0x00 ∷ 0x08 ∷ 0x00 ∷ 0x00 ∷ 0x05 ∷ 0x01 ∷ 0x00 ∷ 0x0A ∷ 0x00 ∷ 0x00 ∷ 0x00 ∷ [];
+      order = 0 ∷ 0 ∷ 0 ∷ 0 ∷ [];
+      answers = 0 ∷ 0 ∷ 0 ∷ 107 ∷ [];
+    }
+    -- Numbers that nobody has: 14, and 15 for one that has ended.
+    ∷ record {
+      table = 0x01 ∷ 0x00 ∷ [];
+      order = 1 ∷ 64 ∷ 255 ∷ 0 ∷ 0 ∷ [];
+      answers = 14 ∷ 14 ∷ 14 ∷ 0 ∷ 15 ∷ [];
     }
     ∷ []

@@ -11,3 +11,5 @@ pub mod Runs
 pub mod History
 pub mod Demand3
 pub mod Cases
+pub mod CasesValues
+pub mod CasesStates
