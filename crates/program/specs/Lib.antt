@@ -6,3 +6,4 @@ pub mod Count
 pub mod Table
 pub mod Places
 pub mod Cases
+pub mod Coding
