@@ -58,7 +58,7 @@ pub everywhere : {A : Type 0} → (A → Bool) → List A → Bool
 everywhere test [] = true
 everywhere test (x ∷ l) = test x && everywhere test l
 
-both : (a b : Bool) → a && b ≡ true → (a ≡ true) × (b ≡ true)
+pub both : (a b : Bool) → a && b ≡ true → (a ≡ true) × (b ≡ true)
 both true b h = (refl, h)
 both false b h = absurd (let z : _≡_ {A = ℕ} 0 1 = cc in let y : ⊥ = omega arith in y)
 
@@ -69,11 +69,11 @@ each test (x ∷ l) d all last zero = both (test x) (everywhere test l) all .0
 each test (x ∷ l) d all last (suc i) = each test l d (both (test x) (everywhere test l) all .1) last i
 
 -- Operands without a range and a use of their own.
-abbrev plain : List Operand → Bool
+abbrev pub plain : List Operand → Bool
 plain [] = true
 plain (o ∷ os) = eqb (kindCode o) 0 && plain os
 
-plain-tail : (op : ℕ) → plain (drop 3 (rowAt op .operands)) ≡ true
+pub plain-tail : (op : ℕ) → plain (drop 3 (rowAt op .operands)) ≡ true
 unfolding rowAt rows everywhere
 plain-tail op = each (λ (r : Row). plain (drop 3 (r .operands))) rows (record { operands = []; work = 0; activities = 0; clocks = 0; accumulators = 0 }) refl refl op
 

@@ -7,3 +7,4 @@ pub mod Table
 pub mod Places
 pub mod Cases
 pub mod Coding
+pub mod Scanned
