@@ -1,3 +1,5 @@
 pub mod Shape
 pub mod RowLaws
 pub mod RangeLaws
+pub mod ReadLaws
+pub mod ScanLaws

@@ -79,7 +79,7 @@ pub fn left_after(left: usize, command: Command) -> usize
 }
 
 // The body at the start of a slice.
-fn extent(code: &[u8], bodies: usize, body: usize) -> Extent
+fn body_extent(code: &[u8], bodies: usize, body: usize) -> Extent
     ensures { λ r. ⌜ r ≡ extentOf bodies body 0 0 (readings (now (code .entry))) ⌝ }
 {
     let mut at: usize = 0;
@@ -157,7 +157,7 @@ pub fn scan(table: &[u8]) -> Scanned
     let mut at: usize = 1;
     let mut body: usize = 0;
     while body < bodies {
-        let found = extent(&table[at..], bodies, body);
+        let found = body_extent(&table[at..], bodies, body);
         let Extent::Ended(size) = found else {
             return refused(number_in(found));
         };
