@@ -3,3 +3,4 @@ pub mod RowLaws
 pub mod RangeLaws
 pub mod ReadLaws
 pub mod ScanLaws
+pub mod LayoutLaws

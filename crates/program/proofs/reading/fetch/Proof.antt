@@ -29,7 +29,7 @@ returns c = c .read .ensures ∙ ap read (tail-part (c .before .before .before .
 
 returns-2 : tie.Need-returns-2
 unfolding read
-returns-2 c = 
+returns-2 c =
     let past : length (c .before .before .args .code .now) ≤ c .before .before .args .offset = omega arith in
     sym (ap read (drop-of-length-le (c .before .before .args .code .now) past))
 

@@ -65,7 +65,7 @@ command-of-requires : tie.Need-command-of-requires
 command-of-requires c κs = search needs
 
 returns-4 : tie.Need-returns-4
-returns-4 c = 
+returns-4 c =
     let rest = tail-part (c .before .before .before .before .before .before .before .before .before .before .before .before .before .before .args .code .now) 1 in
     read-whole (c .before .before .before .before .before .before .before .before .before .before .before .before .before .before .args .code .now) (c .before .before .before .before .before .before .before .before .before .before .wide .result) (c .before .before .before .before .before .before .before .before .before .before .before .before .if1 .left) (c .before .before .before .before .before .before .before .before .before .before .wide .ensures .0) (c .before .before .before .before .before .before .before .before .column .result) (c .before .before .before .before .before .before .before .before .before .if2 .left) (c .before .before .before .before .before .before .before .before .column .ensures .0) (c .before .before .before .before .before .before .before .if3 .left)
     (sym (rest-here (c .before .before .before .before .before)) ∙ c .before .before .before .before .if4 .taken)
