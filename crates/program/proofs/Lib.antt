@@ -4,3 +4,5 @@ pub mod RangeLaws
 pub mod ReadLaws
 pub mod ScanLaws
 pub mod LayoutLaws
+pub mod TotalLaws
+pub mod CountLaws

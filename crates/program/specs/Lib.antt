@@ -8,3 +8,4 @@ pub mod Places
 pub mod Cases
 pub mod Coding
 pub mod Scanned
+pub mod Counting
