@@ -6,3 +6,4 @@ pub mod ScanLaws
 pub mod LayoutLaws
 pub mod TotalLaws
 pub mod CountLaws
+pub mod WalkLaws

@@ -16,7 +16,7 @@ abbrev pub cap : ℕ → ℕ
 cap x = min x 65536
 
 unfoldable pub Small : List ℕ → Type 0
-Small sums = (k : ℕ) → getD sums k 0 ≤ 65536
+Small sums = (k : ℕ) → k < 4 → getD sums k 0 ≤ 65536
 
 -- The sums with a command more, which runs a body of these counts so many times.
 unfoldable pub Added : List ℕ → Command → ℕ → List ℕ → List ℕ → Type 0

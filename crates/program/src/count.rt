@@ -64,14 +64,14 @@ fn count(
     let mut sums = [0u64; 4];
     let mut at: usize = 0;
     let mut left: usize = 0;
-    let mut open = true;
-    while open {
+    let mut going = true;
+    while going {
         let found = read(&code[at..]);
         let Reading::Whole { command, size } = found else {
             return noted(notes, body, sums);
         };
         at += size;
-        open = !is_end(command);
+        going = !is_end(command);
         let inner = left;
         left = left_after(left, command);
         if inner == 0 {

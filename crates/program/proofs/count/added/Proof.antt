@@ -29,9 +29,9 @@ record Bounds (sum own runs count : ℕ) : Type 0 where
 small-here : (c : tie.After-own Inv-loop μ-loop) → Bounds (getD (c .before .before .before .args .t1) (c .before .before .loop .k) 0) (c .own .result) (c .before .before .before .args .runs) (getD (c .before .before .before .args .t4) (c .before .before .loop .k) 0)
 unfolding Small
 small-here c = record {
-  first = c .before .before .before .pre .0 (c .before .before .loop .k);
+  first = c .before .before .before .pre .0 (c .before .before .loop .k) (c .before .loop-test .taken);
   second = c .own .ensures .1;
-  third = product _ _ (c .before .before .before .pre .1 .1) (c .before .before .before .pre .1 .0 (c .before .before .loop .k));
+  third = product _ _ (c .before .before .before .pre .1 .1) (c .before .before .before .pre .1 .0 (c .before .before .loop .k) (c .before .loop-test .taken));
 }
 
 loop-holds : tie.Need-loop-holds Inv-loop μ-loop
