@@ -7,3 +7,4 @@ pub mod LayoutLaws
 pub mod TotalLaws
 pub mod CountLaws
 pub mod WalkLaws
+pub mod TableLaws

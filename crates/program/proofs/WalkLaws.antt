@@ -219,3 +219,22 @@ asked-named p code′ b notes′ lt is noted = record { accepted = p .accepted; 
 pub counts-small : (t : List ℕ) (i : ℕ) (row : List ℕ) → Counts t i row → Small row
 unfolding Counts Small
 counts-small t i row h k lt = let e = h k lt in omega arith
+
+zero-rows : (n i : ℕ) → _≡_ {A = ℕ} (getD {A = ℕ} (getD {A = List ℕ} (replicate n (replicate 4 0)) i []) 0 0) 0
+zero-rows zero i = refl
+zero-rows (suc n) zero = refl
+zero-rows (suc n) (suc i) = zero-rows n i
+
+-- Body 0 is asked for first, with no row noted.
+pub asked-first : (t : List ℕ) (l : Layout) → scan t ≡ 0 → l ≡ layoutOf t → (code : List ℕ) → code ≡ drop (getD (l .starts) 0 0) t → Counting t code l 0 (replicate 16 (replicate 4 0))
+unfolding layoutOf
+asked-first t l accepted is code at = record {
+  accepted = accepted;
+  layout-is = is;
+  one-of = rw is (let s = accepted-open t accepted .some in omega arith);
+  code-is = at;
+  noted = noted-none t (replicate 16 (replicate 4 0)) (zero-rows 16);
+}
+
+pub first-inside : (t : List ℕ) (l : Layout) → scan t ≡ 0 → l ≡ layoutOf t → getD (l .starts) 0 0 ≤ length t
+first-inside t l accepted is = let p = asked-first t l accepted is (drop (getD (l .starts) 0 0) t) refl in asked-laid p 0 (p .one-of) .inside

@@ -3,6 +3,8 @@ use Prim.Native.Nat.{ℕ, _+_, _*_, _≤_, _<_, min}
 use mathlib.Core.Path.{_≡_}
 use mathlib.Core.Logic.{_⊎_}
 use mathlib.Core.List.{List, [], _∷_}
+use mathlib.Core.Bool.{cond}
+use lib.Dec.{ltb}
 use lib.ListN.{length, getD, drop}
 use Rattle.program.specs.Bodies.{programOf}
 use Rattle.program.specs.Count.{tally}
@@ -42,3 +44,7 @@ pub record Counting (t code : List ℕ) (l : Layout) (body : ℕ) (notes : List 
 pub record Filled (t : List ℕ) (body : ℕ) (notes : List (List ℕ)) : Type 0 where
   pub noted : Noted t notes
   pub counts : Counts t body (getD notes body [])
+
+-- Numbers 9 to 12 by the four counts of body 0, main not yet among them; 0 where none is met.
+unfoldable pub overCounts : List ℕ → ℕ
+overCounts r = cond (ltb 63 (getD r 1 0)) 9 (cond (ltb 16 (getD r 2 0)) 10 (cond (ltb 16 (getD r 3 0)) 11 (cond (ltb 65535 (getD r 0 0)) 12 0)))

@@ -50,3 +50,7 @@ scannedOf t =
     let whole : Scanned = record { number = 0; layout = layoutOf t } in
     let none = refusedBy (scan t) in
     cond (eqb (scan t) 0) whole none
+
+-- The mark of a command of body i, where `left` commands still belong to an ATOM.
+abbrev pub markOf : ℕ → ℕ → ℕ
+markOf i left = cond (eqb left 0) (i + 1) 0
