@@ -8,3 +8,4 @@ pub mod TotalLaws
 pub mod CountLaws
 pub mod WalkLaws
 pub mod TableLaws
+pub mod PlaceLaws

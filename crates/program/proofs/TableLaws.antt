@@ -44,9 +44,17 @@ module _ (t r : List ℕ) (h : Counts t 0 r) where
   over-same =
       let o = totals t r h in
       let a : ltb 64 (tally ownActivities (programOf t) 0 + 1) ≡ ltb 63 (tally ownActivities (programOf t) 0) = rw add-one (leb·suc-suc 64 (tally ownActivities (programOf t) 0)) in
-      rw (o .work-is, o .activities-is, o .clocks-is, o .accumulators-is, a,
-      cap-over 63 (tally ownActivities (programOf t) 0) (omega arith), cap-over 16 (clocksOf (programOf t)) (omega arith),
-      cap-over 16 (accumulatorsOf (programOf t)) (omega arith), cap-over 65535 (workOf (programOf t)) (omega arith))
+      rw (
+        o .work-is,
+        o .activities-is,
+        o .clocks-is,
+        o .accumulators-is,
+        a,
+        cap-over 63 (tally ownActivities (programOf t) 0) (omega arith),
+        cap-over 16 (clocksOf (programOf t)) (omega arith),
+        cap-over 16 (accumulatorsOf (programOf t)) (omega arith),
+        cap-over 65535 (workOf (programOf t)) (omega arith),
+      )
 
 -- None of the limits is passed.
 record Within (r : List ℕ) : Type 0 where

@@ -106,7 +106,7 @@ walked-start {t} {code} {l} {body} {notes} p long =
       rest = λ k lt.
           let z = zeros 4 k in
           let e : tally (weight k) (programOf t) body ≡ sumOver (weight k) (tally (weight k) (programOf t)) (locate 0 0 (bodyAt code)) =
-              count-rule t (p .accepted) (weight k) body below ∙ ap (sumOver (weight k) (tally (weight k) (programOf t))) (here .body-is ∙ ap (λ (s : List ℕ). locate 0 0 (bodyAt s)) (sym (p .code-is))) in
+          count-rule t (p .accepted) (weight k) body below ∙ ap (sumOver (weight k) (tally (weight k) (programOf t))) (here .body-is ∙ ap (λ (s : List ℕ). locate 0 0 (bodyAt s)) (sym (p .code-is))) in
           rw e (omega arith);
       names = rw (p .code-is) (here .names);
     }

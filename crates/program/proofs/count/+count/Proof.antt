@@ -115,7 +115,7 @@ count-noted-requires : (t : ℕ) → count-lts.Need-noted-requires (calls t) (co
 count-noted-requires t c κs = few-here t (c .before .before .before .before .before .before .before .before .before)
 
 count-returns-2 : (t : ℕ) → count-lts.Need-returns-2 (calls t) (count-at t) count.Post count-Inv-loop count-μ-loop
-count-returns-2 t c = 
+count-returns-2 t c =
     let w = walk t (c .before .before .before .before) in
     let long = w .long in
     rw (c .noted .ensures)
@@ -153,9 +153,10 @@ count-part-count-end : (t : ℕ) → count-lts.Need-part-count-end (calls t) (co
 count-part-count-end t c = search needs
 
 count-count-requires : (t : ℕ) → count-lts.Need-count-requires (calls t) (count-at t) count.Post count-Inv-loop count-μ-loop
-count-count-requires t c κs = 
-    ( (let h = named-here t (c .before .before) .0 in let f = named-few t (c .before .before) in let e = c .before .before .before .before .before .before .before .before .before .before .before .before .before .before .before .before .before .before .before .pre .0 in omega arith)
-    , asked-named (c .before .before .before .before .before .before .before .before .before .before .before .before .before .before .before .before .before .before .before .pre .1) _ (c .before .before .named .result) (c .before .before .before .before .before .before .before .before .before .before .before .before .before .before .loop .notes) (named-here t (c .before .before) .1) (tail-part (c .before .before .before .before .before .before .before .before .before .before .before .before .before .before .before .before .before .before .before .args .table .now) (getD (c .before .before .before .before .before .before .before .before .before .before .before .before .before .before .before .before .before .before .before .args .t3 .starts) (c .before .before .named .result) 0)) (c .before .before .before .before .before .before .before .before .before .before .before .before .before .before .loop .inv .noted))
+count-count-requires t c κs = (
+  (let h = named-here t (c .before .before) .0 in let f = named-few t (c .before .before) in let e = c .before .before .before .before .before .before .before .before .before .before .before .before .before .before .before .before .before .before .before .pre .0 in omega arith),
+  asked-named (c .before .before .before .before .before .before .before .before .before .before .before .before .before .before .before .before .before .before .before .pre .1) _ (c .before .before .named .result) (c .before .before .before .before .before .before .before .before .before .before .before .before .before .before .loop .notes) (named-here t (c .before .before) .1) (tail-part (c .before .before .before .before .before .before .before .before .before .before .before .before .before .before .before .before .before .before .before .args .table .now) (getD (c .before .before .before .before .before .before .before .before .before .before .before .before .before .before .before .before .before .before .before .args .t3 .starts) (c .before .before .named .result) 0)) (c .before .before .before .before .before .before .before .before .before .before .before .before .before .before .loop .inv .noted),
+)
 
 count-mul-counts : (t : ℕ) → count-lts.Need-mul-counts (calls t) (count-at t) count.Post count-Inv-loop count-μ-loop
 count-mul-counts t c = let h = named-few t (c .before .before .before) in omega arith
@@ -170,7 +171,7 @@ count-loop-less : (t : ℕ) → count-lts.Need-loop-less (calls t) (count-at t) 
 count-loop-less t c = let f = fits-here t (c .before .before .before .before .before .before .before .before .before .before .before) in omega arith
 
 count-loop-again : (t : ℕ) → count-lts.Need-loop-again (calls t) (count-at t) count.Post count-Inv-loop count-μ-loop
-count-loop-again t c = 
+count-loop-again t c =
     rw (c .before .before .before .before .before .before .before .before .before .left-after .ensures, c .before .before .before .before .before .before .before .before .before .before .is-end .ensures)
     (walked-own (walk t (c .before .before .before .before .before .before .before .before .before .before .before .before .before .before .before .before)) (told-here t (c .before .before .before .before .before .before .before .before .before .before .before)) (c .added .result) (c .before .before .before .before .before .before .before .before .if2 .taken) (search needs) (c .before .before .count .ensures .noted)
     (λ k lt. added-named (c .before .before .before .before .before .before .before .before .before .before .before .before .before .before .before .before .before .before .before .before .before .before .args .table .now) (c .before .before .before .before .before .before .before .before .before .before .before .before .before .before .before .before .before .loop .sums) (c .before .before .before .before .before .before .before .before .before .before .before .before .found .given .0 .0) (c .before .before .before .before .before .before .before .times .result) _ (c .added .result) (c .added .ensures) k lt (c .before .before .before .before .before .before .before .times .ensures .0) (counted-here t (c .before .before))))
@@ -182,7 +183,7 @@ count-loop-less-2 : (t : ℕ) → count-lts.Need-loop-less-2 (calls t) (count-at
 count-loop-less-2 t c = let f = fits-here t (c .before .before .before .before .before .before) in omega arith
 
 count-loop-again-2 : (t : ℕ) → count-lts.Need-loop-again-2 (calls t) (count-at t) count.Post count-Inv-loop count-μ-loop
-count-loop-again-2 t c = 
+count-loop-again-2 t c =
     let none : times (c .before .before .before .before .before .before .before .found .given .0 .0) ≡ 0 = (let e = c .before .before .times .ensures .0 in let z = c .before .if3 .left in omega arith) in
     rw (c .before .before .before .before .left-after .ensures, c .before .before .before .before .before .is-end .ensures)
     (walked-own (walk t (c .before .before .before .before .before .before .before .before .before .before .before)) (told-here t (c .before .before .before .before .before .before)) (c .added2 .result) (c .before .before .before .if2 .taken) (c .before .before .before .before .before .before .before .before .before .before .before .before .loop .inv .long) (c .before .before .before .before .before .before .before .before .before .before .before .before .loop .inv .noted)
@@ -198,7 +199,7 @@ count-noted-requires-2 : (t : ℕ) → count-lts.Need-noted-requires-2 (calls t)
 count-noted-requires-2 t c κs = few-here t (c .before .before .before .before .before .before)
 
 count-returns-3 : (t : ℕ) → count-lts.Need-returns-3 (calls t) (count-at t) count.Post count-Inv-loop count-μ-loop
-count-returns-3 t c = 
+count-returns-3 t c =
     let long = c .before .before .loop .inv .long in
     rw (c .noted2 .ensures)
     (noted-set (c .before .before .before .before .before .before .before .args .table .now) (c .before .before .loop .notes) (c .before .before .before .before .before .before .before .args .body) (c .before .before .loop .sums) (let f = few-here t (c .before .before .before .before .before .before .before) in omega arith) (c .before .before .loop .inv .noted)

@@ -77,10 +77,11 @@ loop-less : tie.Need-loop-less Inv-loop μ-loop
 loop-less c = search needs
 
 loop-again : tie.Need-loop-again Inv-loop μ-loop
-loop-again c = 
-    ( simp length-set (c .before .before .before .loop .inv .0)
-    , upto-more (c .before .before .before .before .args .t1) (c .before .before .before .before .args .command) (c .before .before .before .before .args .runs) (c .before .before .before .before .args .t4) (c .before .before .before .loop .k) (c .before .before .before .loop .out) (c .capped .result) (omega arith) (c .before .before .before .loop .inv .1)
-    (c .capped .ensures ∙ ap (λ (x : ℕ). cap (getD (c .before .before .before .before .args .t1) (c .before .before .before .loop .k) 0 + x + c .before .before .before .before .args .runs * getD (c .before .before .before .before .args .t4) (c .before .before .before .loop .k) 0)) (c .before .own .ensures .0)))
+loop-again c = (
+  simp length-set (c .before .before .before .loop .inv .0),
+  upto-more (c .before .before .before .before .args .t1) (c .before .before .before .before .args .command) (c .before .before .before .before .args .runs) (c .before .before .before .before .args .t4) (c .before .before .before .loop .k) (c .before .before .before .loop .out) (c .capped .result) (omega arith) (c .before .before .before .loop .inv .1)
+      (c .capped .ensures ∙ ap (λ (x : ℕ). cap (getD (c .before .before .before .before .args .t1) (c .before .before .before .loop .k) 0 + x + c .before .before .before .before .args .runs * getD (c .before .before .before .before .args .t4) (c .before .before .before .loop .k) 0)) (c .before .own .ensures .0)),
+)
 
 returns : tie.Need-returns Inv-loop μ-loop
 returns c = upto-all (c .before .before .args .t1) (c .before .before .args .command) (c .before .before .args .runs) (c .before .before .args .t4) (c .before .loop .k) (c .before .loop .out) (c .loop-test .left) (c .before .loop .inv .1)
