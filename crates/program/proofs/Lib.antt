@@ -8,3 +8,13 @@ pub mod Located
 pub mod LocatedBytes
 pub mod Marks
 pub mod Tally
+pub mod RowLaws
+pub mod RangeLaws
+pub mod ReadLaws
+pub mod ScanLaws
+pub mod LayoutLaws
+pub mod TotalLaws
+pub mod CountLaws
+pub mod WalkLaws
+pub mod TableLaws
+pub mod PlaceLaws

@@ -63,7 +63,7 @@ unfoldable pub rowAt : ℕ → Row
 rowAt op = getD rows op (row [] 0 0 0 0)
 
 -- A command's byte.
-unfoldable pub opcode : Command → ℕ
+abbrev pub opcode : Command → ℕ
 opcode End = 0x00
 opcode Next = 0x01
 opcode (Clock c) = 0x02
@@ -83,7 +83,7 @@ opcode (Add d) = 0x0F
 opcode (Atom k) = 0x10
 
 -- A command's operand bytes, in the order of the table.
-unfoldable pub operandsOf : Command → List ℕ
+abbrev pub operandsOf : Command → List ℕ
 operandsOf End = []
 operandsOf Next = []
 operandsOf (Clock c) = c ∷ []

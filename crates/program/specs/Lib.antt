@@ -5,3 +5,6 @@ pub mod Scan
 pub mod Count
 pub mod Table
 pub mod Places
+pub mod Coding
+pub mod Scanned
+pub mod Counting

@@ -1,4 +1,10 @@
 // The commands of a table.
+ghost use mathlib.Core.Path.{_≡_};
+ghost use mathlib.Core.List.{[], _∷_};
+ghost use Prim.Native.Nat.{_+_, _<_, _%_, _/_};
+ghost use lib.ListN.{getD};
+ghost use Rattle.program.specs.Command.{rowAt, rowOf, opcode, operandsOf, width, names, named, times, held, isEnd, usesCell, operandWhere};
+ghost use Rattle.program.specs.Coding.{coded, isKind, padded, slotIn, weight};
 
 // A command with its operands as they stand in the table.
 pub enum Command {
@@ -19,4 +25,201 @@ pub enum Command {
     Store(u8),
     Add(u8),
     Atom(u8),
+}
+
+// How many commands there are.
+pub const COMMANDS: usize = 17;
+
+// The kinds of operands that the code asks for; the others are 1 c, 2 a, 3 o, 4 m, 8 d, and 0 for v or none.
+const BODY: usize = 5;
+
+const RUNS: usize = 6;
+
+const HELD: usize = 7;
+
+// A row for each command byte: the width, the kinds of operands 1 to 3, the own work, activities, clocks and accumulators.
+const ROWS: [[u8; 8]; 17] = [
+    [1, 0, 0, 0, 1, 0, 0, 0],
+    [1, 0, 0, 0, 2, 0, 0, 0],
+    [2, 1, 0, 0, 1, 0, 1, 0],
+    [2, 1, 0, 0, 1, 0, 0, 0],
+    [2, 1, 0, 0, 1, 0, 0, 0],
+    [3, 5, 4, 0, 1, 1, 0, 0],
+    [2, 5, 0, 0, 1, 0, 0, 0],
+    [3, 6, 5, 0, 1, 0, 0, 0],
+    [3, 2, 3, 0, 1, 0, 0, 1],
+    [2, 2, 0, 0, 1, 0, 0, 0],
+    [2, 2, 0, 0, 1, 0, 0, 0],
+    [2, 2, 0, 0, 1, 0, 0, 0],
+    [5, 0, 0, 0, 1, 0, 0, 0],
+    [2, 8, 0, 0, 1, 0, 0, 0],
+    [2, 8, 0, 0, 1, 0, 0, 0],
+    [2, 8, 0, 0, 1, 0, 0, 0],
+    [2, 7, 0, 0, 1, 0, 0, 0],
+];
+
+// A byte as a number of the machine's width.
+pub fn wide(x: u8) -> usize
+    ensures { λ r. ⌜ (r ≡ x) × (r < 256) ⌝ }
+{
+    x as usize
+}
+
+// Entry k of the row of a command byte.
+pub fn column(op: usize, k: usize) -> usize
+    requires { ⌜ (op < 17) × (k < 8) ⌝ }
+    ensures { λ r. ⌜ (r ≡ getD (coded (rowAt op)) k 0) × (r < 256) ⌝ }
+{
+    wide(ROWS[op][k])
+}
+
+// A command's byte.
+pub fn opcode(command: Command) -> usize
+    ensures { λ r. ⌜ (r ≡ opcode command) × (r < 17) ⌝ }
+{
+    match command {
+        Command::End => 0,
+        Command::Next => 1,
+        Command::Clock(_) => 2,
+        Command::Resume(_) => 3,
+        Command::Drop(_) => 4,
+        Command::Async(_, _) => 5,
+        Command::Finish(_) => 6,
+        Command::Repeat(_, _) => 7,
+        Command::Acc(_, _) => 8,
+        Command::Offer(_) => 9,
+        Command::Read(_) => 10,
+        Command::Reset(_) => 11,
+        Command::Put(_) => 12,
+        Command::Fetch(_) => 13,
+        Command::Store(_) => 14,
+        Command::Add(_) => 15,
+        Command::Atom(_) => 16,
+    }
+}
+
+// The four bytes of a value, the lowest first.
+fn bytes_of(v: u32) -> [u8; 4]
+    ensures { λ r. ⌜ r ≡ padded (v % 256 ∷ v / 256 % 256 ∷ v / 65536 % 256 ∷ v / 16777216 % 256 ∷ []) ⌝ }
+{
+    [
+        (v % 256) as u8,
+        (v / 256 % 256) as u8,
+        (v / 65536 % 256) as u8,
+        (v / 16777216 % 256) as u8,
+    ]
+}
+
+// A command's operand bytes, and 0 for those that it lacks.
+pub fn operands(command: Command) -> [u8; 4]
+    ensures { λ r. ⌜ r ≡ padded (operandsOf command) ⌝ }
+{
+    match command {
+        Command::End => [0, 0, 0, 0],
+        Command::Next => [0, 0, 0, 0],
+        Command::Clock(c) => [c, 0, 0, 0],
+        Command::Resume(c) => [c, 0, 0, 0],
+        Command::Drop(c) => [c, 0, 0, 0],
+        Command::Async(b, m) => [b, m, 0, 0],
+        Command::Finish(b) => [b, 0, 0, 0],
+        Command::Repeat(n, b) => [n, b, 0, 0],
+        Command::Acc(a, o) => [a, o, 0, 0],
+        Command::Offer(a) => [a, 0, 0, 0],
+        Command::Read(a) => [a, 0, 0, 0],
+        Command::Reset(a) => [a, 0, 0, 0],
+        Command::Put(v) => bytes_of(v),
+        Command::Fetch(d) => [d, 0, 0, 0],
+        Command::Store(d) => [d, 0, 0, 0],
+        Command::Add(d) => [d, 0, 0, 0],
+        Command::Atom(k) => [k, 0, 0, 0],
+    }
+}
+
+// Which operand of a command byte is of a kind, from 0; 3 where none is.
+fn slot(op: usize, kind: usize) -> usize
+    requires { ⌜ op < 17 ⌝ }
+    ensures { λ r. ⌜ r ≡ slotIn kind (coded (rowAt op)) ⌝ }
+{
+    if column(op, 1) == kind {
+        return 0;
+    }
+    if column(op, 2) == kind {
+        return 1;
+    }
+    if column(op, 3) == kind {
+        return 2;
+    }
+    3
+}
+
+// The operand of a kind, or the number given where a command has none.
+fn chosen(command: Command, kind: usize, other: usize) -> usize
+    requires { ⌜ (0 < kind) × (other < 256) ⌝ }
+    ensures { λ r. ⌜ (r ≡ operandWhere (isKind kind) other (rowOf command .operands) (operandsOf command)) × (r < 256) ⌝ }
+{
+    let i = slot(opcode(command), kind);
+    let bytes = operands(command);
+    if i < 3 { wide(bytes[i]) } else { other }
+}
+
+// The bytes of a command, its first one included.
+pub fn width(command: Command) -> usize
+    ensures { λ r. ⌜ r ≡ width command ⌝ }
+{
+    column(opcode(command), 0)
+}
+
+// Entry k of what a command counts by itself: work 0, activities 1, clocks 2, accumulators 3.
+pub fn own(command: Command, k: usize) -> usize
+    requires { ⌜ k < 4 ⌝ }
+    ensures { λ r. ⌜ (r ≡ weight k command) × (r < 256) ⌝ }
+{
+    column(opcode(command), 4 + k)
+}
+
+// Whether a command names a body.
+pub fn names(command: Command) -> bool
+    ensures { λ r. ⌜ r ≡ names command ⌝ }
+{
+    slot(opcode(command), BODY) < 3
+}
+
+// The body that a command names, or 0.
+pub fn named(command: Command) -> usize
+    ensures { λ r. ⌜ (r ≡ named command) × (r < 256) ⌝ }
+{
+    chosen(command, BODY, 0)
+}
+
+// How often a command runs the body that it names.
+pub fn times(command: Command) -> usize
+    ensures { λ r. ⌜ (r ≡ times command) × (r < 256) ⌝ }
+{
+    if names(command) {
+        chosen(command, RUNS, 1)
+    } else {
+        0
+    }
+}
+
+// How many of the commands that follow belong to a command: the k of ATOM.
+pub fn held(command: Command) -> usize
+    ensures { λ r. ⌜ (r ≡ held command) × (r < 256) ⌝ }
+{
+    chosen(command, HELD, 0)
+}
+
+// Whether a command is END.
+pub fn is_end(command: Command) -> bool
+    ensures { λ r. ⌜ r ≡ isEnd command ⌝ }
+{
+    opcode(command) == 0
+}
+
+// Whether a command is one of 0D to 0F.
+pub fn uses_cell(command: Command) -> bool
+    ensures { λ r. ⌜ r ≡ usesCell command ⌝ }
+{
+    let op = opcode(command);
+    13 <= op && op <= 15
 }

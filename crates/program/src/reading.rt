@@ -1,5 +1,13 @@
 // One command from the slice that starts at it.
+ghost use mathlib.Core.Path.{_≡_};
+ghost use Prim.Native.Nat.{_<_, _≤_};
+ghost use lib.ListN.{length, getD, drop};
+ghost use Rattle.program.specs.Command.{word, rowAt};
+ghost use Rattle.program.specs.Coding.{withinCode, Made};
+ghost use Rattle.program.specs.Reading.{read, allInside};
 use super::command::Command;
+use super::command::column;
+use super::command::wide;
 
 // What stands at the start of a slice.
 pub enum Reading {
@@ -11,4 +19,132 @@ pub enum Reading {
     Cut,
     // An operand is outside its range: number 5.
     Outside,
+}
+
+// The least and the greatest operand of each kind.
+const RANGES: [[u8; 2]; 9] = [
+    [0, 255],
+    [0, 7],
+    [0, 7],
+    [0, 2],
+    [0, 255],
+    [0, 255],
+    [0, 255],
+    [1, 8],
+    [0, 15],
+];
+
+// A byte of a slice, 0 past its end.
+fn byte_at(code: &[u8], i: usize) -> u8
+    ensures { λ r. ⌜ r ≡ getD (now (code .entry)) i 0 ⌝ }
+{
+    if i < code.len() { code[i] } else { 0 }
+}
+
+// A byte as a number of 32 bits.
+fn wide32(x: u8) -> u32
+    ensures { λ r. ⌜ (r ≡ x) × (r < 256) ⌝ }
+{
+    x as u32
+}
+
+// The number that the first four bytes of a slice make, the lowest first.
+fn value(code: &[u8]) -> u32
+    ensures { λ r. ⌜ r ≡ word (now (code .entry)) ⌝ }
+{
+    let a = wide32(byte_at(code, 0));
+    let b = wide32(byte_at(code, 1));
+    let c = wide32(byte_at(code, 2));
+    let d = wide32(byte_at(code, 3));
+    a + 256 * b + 65536 * c + 16777216 * d
+}
+
+// The command of a byte with operands x and y, or the value v.
+pub fn command_of(op: usize, x: u8, y: u8, v: u32) -> Command
+    requires { ⌜ op < 17 ⌝ }
+    ensures { λ r. ⌜ Made op x y v r ⌝ }
+{
+    let all = [
+        Command::End,
+        Command::Next,
+        Command::Clock(x),
+        Command::Resume(x),
+        Command::Drop(x),
+        Command::Async(x, y),
+        Command::Finish(x),
+        Command::Repeat(x, y),
+        Command::Acc(x, y),
+        Command::Offer(x),
+        Command::Read(x),
+        Command::Reset(x),
+        Command::Put(v),
+        Command::Fetch(x),
+        Command::Store(x),
+        Command::Add(x),
+        Command::Atom(x),
+    ];
+    all[op]
+}
+
+// Whether an operand is inside the range of its kind.
+fn within(kind: usize, x: u8) -> bool
+    requires { ⌜ kind < 9 ⌝ }
+    ensures { λ r. ⌜ r ≡ withinCode kind x ⌝ }
+{
+    let low = RANGES[kind][0];
+    let high = RANGES[kind][1];
+    low <= x && x <= high
+}
+
+// Whether each operand of a command byte is inside its range.
+fn operands_fit(op: usize, operands: &[u8]) -> bool
+    requires { ⌜ (op < 17) × (length (rowAt op .operands) ≤ length (now operands)) ⌝ }
+    ensures { λ r. ⌜ r ≡ allInside (rowAt op .operands) (now (operands .entry)) ⌝ }
+{
+    if !within(column(op, 1), byte_at(operands, 0)) {
+        return false;
+    }
+    if !within(column(op, 2), byte_at(operands, 1)) {
+        return false;
+    }
+    within(column(op, 3), byte_at(operands, 2))
+}
+
+// The command at the start of a slice: numbers 3, 4 and 5 in this order.
+pub fn read(code: &[u8]) -> Reading
+    ensures { λ r. ⌜ r ≡ read (now (code .entry)) ⌝ }
+{
+    if code.len() == 0 {
+        return Reading::Cut;
+    }
+    let op = wide(code[0]);
+    if 17 <= op {
+        return Reading::Unknown;
+    }
+    let size = column(op, 0);
+    if code.len() < size {
+        return Reading::Cut;
+    }
+    let rest = &code[1..];
+    if operands_fit(op, rest) {
+        let x = byte_at(rest, 0);
+        let y = byte_at(rest, 1);
+        Reading::Whole {
+            command: command_of(op, x, y, value(rest)),
+            size,
+        }
+    } else {
+        Reading::Outside
+    }
+}
+
+// The command at an offset of the slice from a body's first command.
+pub fn fetch(code: &[u8], offset: usize) -> Reading
+    ensures { λ r. ⌜ r ≡ read (drop offset (now (code .entry))) ⌝ }
+{
+    if offset <= code.len() {
+        read(&code[offset..])
+    } else {
+        Reading::Cut
+    }
 }

@@ -1,0 +1,21 @@
+-- It is a test of the command byte.
+use mathlib.Core.Path.{_≡_, refl, sym, ap, _∙_}
+use lib.Dec.{eqb}
+use Prim.Native.Nat.{ℕ}
+use Rattle.program.specs.Command.{isEnd}
+use borrow.Author.Needs.{needs}
+use Rattle.program.proofs.command.is_end.Statement.{statement}
+use Rattle.program.proofs.command.is_end.Tie as tie
+use Rattle.program.proofs.command.is_end.Reads as reads
+use Rattle.program.proofs.command.is_end.Lts as lts
+use Rattle.program.proofs.command.opcode.Reads as opcode-reads
+
+opcode-requires : tie.Need-opcode-requires
+opcode-requires c κs = search needs
+
+returns : tie.Need-returns
+unfolding isEnd
+returns c = ap (λ (op : ℕ). eqb op 0) (c .opcode .ensures .0)
+
+pub is-end-spec : {M : Type 1} → statement M
+is-end-spec = tie.close (tie.spec opcode-requires returns)

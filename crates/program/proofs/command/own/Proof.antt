@@ -1,0 +1,35 @@
+-- The row's last four entries are what a command counts by itself.
+use mathlib.Core.Path.{_≡_, refl, sym, ap, _∙_}
+use Prim.Native.Nat.{ℕ, _+_}
+use lib.ListN.{getD}
+use lib.Seq.{getD-drop}
+use Rattle.program.specs.Command.{rowOf, rowAt, opcode}
+use Rattle.program.specs.Coding.{coded, weight}
+use borrow.Author.Needs.{needs}
+use Rattle.program.proofs.command.own.Statement.{statement}
+use Rattle.program.proofs.command.own.Tie as tie
+use Rattle.program.proofs.command.own.Reads as reads
+use Rattle.program.proofs.command.own.Lts as lts
+use Rattle.program.proofs.command.column.Reads as column-reads
+use Rattle.program.proofs.command.opcode.Reads as opcode-reads
+
+opcode-requires : tie.Need-opcode-requires
+opcode-requires c κs = search needs
+
+add-column : tie.Need-add-column
+add-column c = search needs
+
+column-requires : tie.Need-column-requires
+column-requires c κs = search needs
+
+returns : tie.Need-returns
+unfolding weight rowOf coded
+returns c = (
+  c .column .ensures .0
+      ∙ ap (λ (op : ℕ). getD (coded (rowAt op)) (4 + c .before .before .args .k) 0) (c .before .opcode .ensures .0)
+      ∙ sym (getD-drop 4 (coded (rowAt (opcode (c .before .before .args .command)))) (c .before .before .args .k) 0),
+  c .column .ensures .1,
+)
+
+pub own-spec : {M : Type 1} → statement M
+own-spec = tie.close (tie.spec opcode-requires add-column column-requires returns)

@@ -1,0 +1,47 @@
+-- The three kinds are compared in turn.
+use mathlib.Core.Path.{_≡_, refl, sym, ap, _∙_}
+use borrow.Author.Tests.{eq-eqb, ne-eqb}
+use Rattle.program.specs.Coding.{slotIn}
+use borrow.Author.Needs.{needs}
+use Rattle.program.proofs.command.slot.Statement.{statement}
+use Rattle.program.proofs.command.slot.Tie as tie
+use Rattle.program.proofs.command.slot.Reads as reads
+use Rattle.program.proofs.command.slot.Lts as lts
+use Rattle.program.proofs.command.column.Reads as column-reads
+
+column-requires : tie.Need-column-requires
+column-requires c κs = search needs
+
+returns : tie.Need-returns
+unfolding slotIn
+returns c = rw (eq-eqb _ _ (sym (c .before .column .ensures .0) ∙ c .if1 .taken))
+
+column-requires-2 : tie.Need-column-requires-2
+column-requires-2 c κs = search needs
+
+returns-2 : tie.Need-returns-2
+unfolding slotIn
+returns-2 c = rw (ne-eqb _ _ (λ e. c .before .before .if1 .left (c .before .before .before .column .ensures .0 ∙ e)), eq-eqb _ _ (sym (c .before .column2 .ensures .0) ∙ c .if2 .taken))
+
+column-requires-3 : tie.Need-column-requires-3
+column-requires-3 c κs = search needs
+
+returns-3 : tie.Need-returns-3
+unfolding slotIn
+returns-3 c = rw (ne-eqb _ _ (λ e. c .before .before .before .before .if1 .left (c .before .before .before .before .before .column .ensures .0 ∙ e)), ne-eqb _ _ (λ e. c .before .before .if2 .left (c .before .before .before .column2 .ensures .0 ∙ e)), eq-eqb _ _ (sym (c .before .column3 .ensures .0) ∙ c .if3 .taken))
+
+returns-4 : tie.Need-returns-4
+unfolding slotIn
+returns-4 c = rw (ne-eqb _ _ (λ e. c .before .before .before .before .if1 .left (c .before .before .before .before .before .column .ensures .0 ∙ e)), ne-eqb _ _ (λ e. c .before .before .if2 .left (c .before .before .before .column2 .ensures .0 ∙ e)), ne-eqb _ _ (λ e. c .if3 .left (c .before .column3 .ensures .0 ∙ e)))
+
+pub slot-spec : {M : Type 1} → statement M
+slot-spec =
+    tie.close
+    (tie.spec
+    column-requires
+    returns
+    column-requires-2
+    returns-2
+    column-requires-3
+    returns-3
+    returns-4)

@@ -1,0 +1,24 @@
+-- The row's first entry is the width.
+use mathlib.Core.Path.{_≡_, refl, sym, ap, _∙_}
+use Rattle.program.specs.Command.{width, rowOf}
+use Rattle.program.specs.Coding.{coded}
+use borrow.Author.Needs.{needs}
+use Rattle.program.proofs.command.width.Statement.{statement}
+use Rattle.program.proofs.command.width.Tie as tie
+use Rattle.program.proofs.command.width.Reads as reads
+use Rattle.program.proofs.command.width.Lts as lts
+use Rattle.program.proofs.command.column.Reads as column-reads
+use Rattle.program.proofs.command.opcode.Reads as opcode-reads
+
+opcode-requires : tie.Need-opcode-requires
+opcode-requires c κs = search needs
+
+column-requires : tie.Need-column-requires
+column-requires c κs = search needs
+
+returns : tie.Need-returns
+unfolding width rowOf coded
+returns c = c .column .ensures .0 ∙ rw (c .before .opcode .ensures .0)
+
+pub width-spec : {M : Type 1} → statement M
+width-spec = tie.close (tie.spec opcode-requires column-requires returns)

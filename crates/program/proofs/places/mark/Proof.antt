@@ -1,0 +1,19 @@
+-- The cases are those of the definition.
+use borrow.Author.Tests.{eq-eqb, ne-eqb}
+use borrow.Author.Needs.{needs}
+use Rattle.program.proofs.places.mark.Statement.{statement}
+use Rattle.program.proofs.places.mark.Tie as tie
+use Rattle.program.proofs.places.mark.Reads as reads
+use Rattle.program.proofs.places.mark.Lts as lts
+
+add-result : tie.Need-add-result
+add-result c = search needs
+
+returns : tie.Need-returns
+returns c = rw (eq-eqb _ _ (c .if1 .taken))
+
+returns-2 : tie.Need-returns-2
+returns-2 c = rw (ne-eqb _ _ (c .if1 .left))
+
+pub mark-spec : {M : Type 1} → statement M
+mark-spec = tie.close (tie.spec add-result returns returns-2)

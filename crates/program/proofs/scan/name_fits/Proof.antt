@@ -1,0 +1,32 @@
+-- The tests are those of the definition.
+use mathlib.Core.Path.{_≡_, refl, sym, ap, _∙_}
+use borrow.Author.Tests.{lt-ltb, le-ltb}
+use Rattle.program.specs.Scan.{nameFits}
+use borrow.Author.Needs.{needs}
+use Rattle.program.proofs.scan.name_fits.Statement.{statement}
+use Rattle.program.proofs.scan.name_fits.Tie as tie
+use Rattle.program.proofs.scan.name_fits.Reads as reads
+use Rattle.program.proofs.scan.name_fits.Lts as lts
+use Rattle.program.proofs.command.named.Reads as named-reads
+use Rattle.program.proofs.command.names.Reads as names-reads
+
+names-requires : tie.Need-names-requires
+names-requires c κs = search needs
+
+named-requires : tie.Need-named-requires
+named-requires c κs = search needs
+
+returns : tie.Need-returns
+unfolding nameFits
+returns c = rw (← c .before .before .before .names .ensures, c .before .before .if1 .taken, ← c .before .named .ensures .0, lt-ltb _ _ (c .if2 .taken))
+
+returns-2 : tie.Need-returns-2
+unfolding nameFits
+returns-2 c = rw (← c .before .before .before .names .ensures, c .before .before .if1 .taken, ← c .before .named .ensures .0, le-ltb _ _ (c .if2 .left))
+
+returns-3 : tie.Need-returns-3
+unfolding nameFits
+returns-3 c = rw (← c .before .names .ensures, c .if1 .left)
+
+pub name-fits-spec : {M : Type 1} → statement M
+name-fits-spec = tie.close (tie.spec names-requires named-requires returns returns-2 returns-3)
