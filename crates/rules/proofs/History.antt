@@ -114,7 +114,6 @@ module _ (l : Limits) {p : Program} (ok : Accepted p) {s : State} (f : Facts (l 
 
     -- a FINISH spawns nobody
     none-new : isFinish (here p (top (act s i)) .command) ≡ true → (x : ℕ) → x < after p s i .activities → x < s .activities
-    unfolding opcode
     none-new o x m = go (entry l ok f z i t r x)
       where
         go : Now s i (effect p s i) x → x < s .activities

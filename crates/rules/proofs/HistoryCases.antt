@@ -29,10 +29,10 @@ unfoldable order : List ℕ
 order = 0 ∷ 0 ∷ 0 ∷ 2 ∷ []
 
 told : not (insides base table order 0 1 1) && (insides base table order 0 1 2 && insides base table order 0 1 3) ≡ true
-unfolding rows rowAt opcode operandsOf commandOf rowOf width names named times held isEnd usesCell read readingsAfter readings wholes commandsOf firstBody afterEnd locate bodiesOf programOf from isPlace nameFits atomFits placing leftAfter bodyAfter verdict fitsLength fitsBodies scan sumOver tallyTo tally workOf activitiesOf clocksOf accumulatorsOf overCount numberOf someBelow allBelow countBelow bitsBelow listFrom chain holdsSome isBehind behind quiescent rest here nextOffset finishes inOwnFinish inFinishBody descends inside lendsUnheld lendsQuiesced asyncFault readFault faultFor behindOf unendedBelow unendedInside waitsFor waitsAt past pushed again popped endOf nextOf repeatOf lent child cellAfter touch touchAll effectOf withStores applied isNoActivity runBy isPlaced isBottom isStacked frameFits stackFits bodyFits barrierFits holdFits namesFit spawnerFits activityFits countsFit activitiesFit accumulatorsFit wellFormed at fault waits effect refusal exceeds advance unfit startWith start stepWith step canStep ready registrationOn sheetOf registrationsNumber registrations runFrom answersFrom run answers taken someFault finished isFinishBody beginsFinish spawnsNow insidesAfter insidesFrom insides table order
+unfolding rows rowAt commandOf rowOf width names named times held isEnd usesCell read readingsAfter readings wholes commandsOf firstBody afterEnd locate bodiesOf programOf from isPlace nameFits atomFits placing leftAfter bodyAfter verdict fitsLength fitsBodies scan sumOver tallyTo tally workOf activitiesOf clocksOf accumulatorsOf overCount numberOf someBelow allBelow countBelow bitsBelow listFrom chain holdsSome isBehind behind quiescent rest here nextOffset finishes inOwnFinish inFinishBody descends inside lendsUnheld lendsQuiesced asyncFault readFault faultFor behindOf unendedBelow unendedInside waitsFor waitsAt past pushed again popped endOf nextOf repeatOf lent child cellAfter touch touchAll effectOf withStores applied isNoActivity runBy isPlaced isBottom isStacked frameFits stackFits bodyFits barrierFits holdFits namesFit spawnerFits activityFits countsFit activitiesFit accumulatorsFit wellFormed at fault waits effect refusal exceeds advance unfit startWith start stepWith step canStep ready registrationOn sheetOf registrationsNumber registrations runFrom answersFrom run answers taken someFault finished isFinishBody beginsFinish spawnsNow insidesAfter insidesFrom insides table order
 told = refl
 
 -- 3 is not inside before it is spawned
 untold : insides base table (0 ∷ 0 ∷ 0 ∷ []) 0 1 3 ≡ false
-unfolding rows rowAt opcode operandsOf commandOf rowOf width names named times held isEnd usesCell read readingsAfter readings wholes commandsOf firstBody afterEnd locate bodiesOf programOf from isPlace nameFits atomFits placing leftAfter bodyAfter verdict fitsLength fitsBodies scan sumOver tallyTo tally workOf activitiesOf clocksOf accumulatorsOf overCount numberOf someBelow allBelow countBelow bitsBelow listFrom chain holdsSome isBehind behind quiescent rest here nextOffset finishes inOwnFinish inFinishBody descends inside lendsUnheld lendsQuiesced asyncFault readFault faultFor behindOf unendedBelow unendedInside waitsFor waitsAt past pushed again popped endOf nextOf repeatOf lent child cellAfter touch touchAll effectOf withStores applied isNoActivity runBy isPlaced isBottom isStacked frameFits stackFits bodyFits barrierFits holdFits namesFit spawnerFits activityFits countsFit activitiesFit accumulatorsFit wellFormed at fault waits effect refusal exceeds advance unfit startWith start stepWith step canStep ready registrationOn sheetOf registrationsNumber registrations runFrom answersFrom run answers taken someFault finished isFinishBody beginsFinish spawnsNow insidesAfter insidesFrom insides table
+unfolding rows rowAt commandOf rowOf width names named times held isEnd usesCell read readingsAfter readings wholes commandsOf firstBody afterEnd locate bodiesOf programOf from isPlace nameFits atomFits placing leftAfter bodyAfter verdict fitsLength fitsBodies scan sumOver tallyTo tally workOf activitiesOf clocksOf accumulatorsOf overCount numberOf someBelow allBelow countBelow bitsBelow listFrom chain holdsSome isBehind behind quiescent rest here nextOffset finishes inOwnFinish inFinishBody descends inside lendsUnheld lendsQuiesced asyncFault readFault faultFor behindOf unendedBelow unendedInside waitsFor waitsAt past pushed again popped endOf nextOf repeatOf lent child cellAfter touch touchAll effectOf withStores applied isNoActivity runBy isPlaced isBottom isStacked frameFits stackFits bodyFits barrierFits holdFits namesFit spawnerFits activityFits countsFit activitiesFit accumulatorsFit wellFormed at fault waits effect refusal exceeds advance unfit startWith start stepWith step canStep ready registrationOn sheetOf registrationsNumber registrations runFrom answersFrom run answers taken someFault finished isFinishBody beginsFinish spawnsNow insidesAfter insidesFrom insides table
 untold = refl

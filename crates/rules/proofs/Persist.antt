@@ -47,7 +47,7 @@ read-same s s′ x a n h = go (decide (unbound a n))
 -- where the accumulators that are bound have the same owners, the same fault is met
 fault-same : (p : Program) (s s′ : State) (x : ℕ) (a : Activity) → ((n : ℕ) → n < 8 → unbound a n ≡ false → accumulator s′ (numberUnder a n) .owner ≡ accumulator s (numberUnder a n) .owner)
     → (o : Command) → Ranged o → faultFor p (envOf s′) x a o ≡ faultFor p (envOf s) x a o
-unfolding faultFor Ranged rowOf rowAt rows opcode operandsOf
+unfolding faultFor Ranged rowOf rowAt rows
 fault-same p s s′ x a h End r = refl
 fault-same p s s′ x a h Next r = refl
 fault-same p s s′ x a h (Clock c) r = refl

@@ -100,7 +100,7 @@ spent-own own c false h = go (isNext c)
 
 -- Both steps of NEXT count.
 next-work : 1 ≤ ownWork Next
-unfolding opcode rowOf rowAt rows
+unfolding rowOf rowAt rows
 next-work = omega arith
 
 -- Every command counts.

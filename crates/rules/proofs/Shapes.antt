@@ -79,7 +79,7 @@ alike-self = record { frames = refl; depth = refl; status = refl; spawner = refl
 
 -- Each command's kind.
 pub kind : (p : Program) (e : Env) (i : ℕ) (a : Activity) (c : Command) (inner : List Command) → Kind p e i a c (effectOf p e i a c inner)
-unfolding effectOf repeatOf isEnd isNext opcode times names operandsOf rowOf rowAt rows
+unfolding effectOf repeatOf isEnd isNext times names rowOf rowAt rows
 kind p e i a End inner = ends refl refl refl
 kind p e i a Next inner = meets refl refl refl
 kind p e i a (Clock c) inner = moves _ refl refl refl (alike-holds (replaced c _ (created refl refl) refl)) refl refl
@@ -111,7 +111,7 @@ Counts c x =
 
 -- Each command's row.
 pub counts : (p : Program) (e : Env) (i : ℕ) (a : Activity) (c : Command) (inner : List Command) → Counts c (effectOf p e i a c inner)
-unfolding Counts effectOf isNext opcode rowOf rowAt rows
+unfolding Counts effectOf isNext rowOf rowAt rows
 counts p e i a End inner = (refl, refl, refl, refl)
 counts p e i a Next inner = (refl, refl, refl, refl)
 counts p e i a (Clock c) inner = (refl, refl, refl, refl)
@@ -179,7 +179,7 @@ module _ {p : Program} {e : Env} {i : ℕ} {a : Activity} {c : Command} {x : Eff
 
   -- Who meets a fault stands neither on END nor on NEXT.
   pub faulty : (faultFor p e i a c ≡ 0 → ⊥) → Kind p e i a c x → (isEnd c ≡ false) × (isNext c ≡ false)
-  unfolding faultFor isEnd isNext opcode
+  unfolding faultFor isEnd isNext
   faulty f (ends q s n) = absurd (f (rw q))
   faulty f (meets q s n) = absurd (f (rw q))
   faulty f (forks b m q s n) = (rw q, rw q)

@@ -129,7 +129,7 @@ module _ (p : Program) (ok : Accepted p) (s : State) (i : ℕ) (a : Activity) (s
 
     -- By the kind of the command.
     pub left-by : {x : Effect} → Kind p (envOf s) i a c x → Left p s a x
-    unfolding isEnd isNext opcode names named rowOf rowAt rows operandsOf
+    unfolding isEnd isNext names named rowOf rowAt rows
     left-by {x} (ends z xs n) = left-end (rw z) (rw z) x xs
     left-by {x} (meets z xs n) = left-next (rw z) (rw z) (isAtBarrier (a .status)) x xs
     left-by {x} (forks b m z xs n) = left-past a refl refl (standing (rw (q, z))) (rw z) x xs
@@ -143,7 +143,7 @@ module _ (p : Program) (ok : Accepted p) (s : State) (i : ℕ) (a : Activity) (s
 
     -- The stack of the one spawned.
     pub stack-born : {x : Effect} → Kind p (envOf s) i a c x → OfChild (λ b. Stack p (b .depth) (b .frames) × (isAtBarrier (b .status) ≡ false)) (x .spawned)
-    unfolding child names named opcode rowOf rowAt rows operandsOf
+    unfolding child names named rowOf rowAt rows
     stack-born k =
         born (λ b. Stack p (b .depth) (b .frames) × (isAtBarrier (b .status) ≡ false))
         (λ b m z.
@@ -193,7 +193,7 @@ module _ (p : Program) (ok : Accepted p) (s : State) (i : ℕ) (a : Activity) (s
 
       -- Both steps of NEXT.
       next-spends : c ≡ Next → late ≤ own Next → (b : Bool) → isAtBarrier (a .status) ≡ b → Pend a ≡ spent own late c b + Pend (nextOf p a b)
-      unfolding nextOf spent cost isEnd isNext opcode times names rowOf rowAt rows frames
+      unfolding nextOf spent cost isEnd isNext times names rowOf rowAt rows frames
       next-spends z l true h =
           let x = past-left (withHolds a Running (map pass (a .holds))) refl refl refl refl (rw z) in
           let y = pend-met own p late a u h in
@@ -212,7 +212,7 @@ module _ (p : Program) (ok : Accepted p) (s : State) (i : ℕ) (a : Activity) (s
       -- A step without a fault lowers what is pending by its weight.
       pub spends : late ≤ own Next → {x : Effect} → Kind p (envOf s) i a c x
           → Pend a ≡ spent own late c (isAtBarrier (a .status)) + Pend (x .self) + pendChild own p late (x .spawned)
-      unfolding cost isEnd isNext opcode times names named rowOf rowAt rows operandsOf pendChild child
+      unfolding cost isEnd isNext times names named rowOf rowAt rows pendChild child
       spends l {x} (ends z xs n) =
           let y = end-left (rw z) (rw z) in
           let w = before (rw z) in

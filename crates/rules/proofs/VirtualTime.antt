@@ -209,7 +209,7 @@ module _ (p : Program) (e : Env) (base : ℕ → ℕ) (v i : ℕ) (a : Activity)
   -- By the kind of the command: the activity itself.
   pub fine-self : {c : Command} {x : Effect} → (isNext c ≡ false → isAtBarrier (a .status) ≡ false) → Kind p e i a c x
       → Fine (clockedCount (e .clock) (x .clocked)) (upd base (e .clock) v) (later v c (isAtBarrier (a .status))) i (x .self)
-  unfolding later past pushed isNext opcode base′
+  unfolding later past pushed isNext base′
   fine-self {c} {x} n (ends q s m) = rw (s, q) (fine-end p base′ v i a (clockedCount (e .clock) (x .clocked)) (keep-to _ (grows (x .clocked))))
   fine-self {c} {x} n (meets q s m) =
       rw (s, q) (fine-next p base′ v i a (clockedCount (e .clock) (x .clocked)) (keep-to _ (grows (x .clocked))) (isAtBarrier (a .status)))

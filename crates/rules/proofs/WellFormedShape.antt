@@ -143,7 +143,7 @@ module _ (p : Program) (s : State) (i : ℕ) (a : Activity) (live : isEnded (a .
 
   -- END
   of-end : (inner : List Command) → a .status ≡ Running → Shape p s i a End (effectOf p (envOf s) i a End inner)
-  unfolding effectOf endOf again popped past isEnd opcode
+  unfolding effectOf endOf again popped past isEnd
   of-end inner r = go (leb (a .depth) 1) refl (ltb 1 (top a .runs)) refl
     where
       go : (x : Bool) → leb (a .depth) 1 ≡ x → (y : Bool) → ltb 1 (top a .runs) ≡ y → Shape p s i a End (alone (cond x (stopped a Ended) (cond y (again a) (popped p a))))
@@ -161,7 +161,7 @@ module _ (p : Program) (s : State) (i : ℕ) (a : Activity) (live : isEnded (a .
 
   -- NEXT
   of-next : (inner : List Command) → Shape p s i a Next (effectOf p (envOf s) i a Next inner)
-  unfolding effectOf nextOf past isEnd opcode
+  unfolding effectOf nextOf past isEnd
   of-next inner = go (isAtBarrier (a .status))
     where
       go : (x : Bool) → Shape p s i a Next (alone (nextOf p a x))
@@ -175,7 +175,7 @@ module _ (p : Program) (s : State) (i : ℕ) (a : Activity) (live : isEnded (a .
   -- each command that meets no fault
   pub shape : (o : Command) (inner : List Command) → (isAtBarrier (a .status) ≡ true → opcode o ≡ 1) → Ranged o → faultFor p (envOf s) i a o ≡ 0
       → Shape p s i a o (effectOf p (envOf s) i a o inner)
-  unfolding effectOf faultFor readFault asyncFault repeatOf past pushed isEnd opcode Ranged rowOf rowAt rows operandsOf touch
+  unfolding effectOf faultFor readFault asyncFault repeatOf past pushed isEnd Ranged rowOf rowAt rows touch
   shape End inner b r e = of-end inner (still End b (λ q. omega arith))
   shape Next inner b r e = of-next inner
   shape (Clock c) inner b r e =

@@ -78,19 +78,18 @@ ran-less g x y z l (byRepeat n b e p q r u) = byRepeat n b e (x ∙ p) (omega ar
 
 -- what runs a body is no END
 pub ran-going : {made : ℕ} {o : Command} {f : Frame} → Ran made o f → isEnd o ≡ false
-unfolding isEnd opcode
+unfolding isEnd
 ran-going (byFinish b e p q r) = rw e
 ran-going (byRepeat n b e p q r u) = rw e
 
 -- and names it
 pub ran-names : {made : ℕ} {o : Command} {f : Frame} → Ran made o f → (names o ≡ true) × (named o ≡ f .body)
-unfolding names named rowOf rowAt rows opcode operandsOf
+unfolding names named rowOf rowAt rows
 ran-names (byFinish b e p q r) = rw e (refl, sym p)
 ran-names (byRepeat n b e p q r u) = rw e (refl, sym p)
 
 -- a body with a first number is run by a FINISH
 pub ran-first : {made : ℕ} {o : Command} {f : Frame} → Ran made o f → isFinish o ≡ true → (f .runs ≡ 0) × (f .first ≤ made)
-unfolding opcode
 ran-first {o = o} (byFinish b e p q r) h = (q, r)
 ran-first {o = o} (byRepeat n b e p q r u) h = absurd (true-false (isFinish o) h (rw e))
 

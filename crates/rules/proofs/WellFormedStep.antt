@@ -223,7 +223,7 @@ owned-after s e z r (resets x v w m b) n l = rw w (λ h. absurd (omega arith), �
 
 -- ASYNC names the body that it spawns
 async-names : {b m : ℕ} (o : Command) → o ≡ Async b m → (names o ≡ true) × (named o ≡ b)
-unfolding names named rowOf rowAt rows opcode operandsOf
+unfolding names named rowOf rowAt rows
 async-names o e = rw e (refl, refl)
 
 module _ (l : Limits) {p : Program} {s : State} (ok : Accepted p) (f : Facts (l .phase) p s) (z : Sized s) (i : ℕ) (t : Turn p s i) where
