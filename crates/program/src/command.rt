@@ -2,9 +2,9 @@
 ghost use mathlib.Core.Path.{_≡_};
 ghost use mathlib.Core.List.{[], _∷_};
 ghost use Prim.Native.Nat.{_+_, _<_, _%_, _/_};
-ghost use lib.ListN.{getD};
 ghost use Rattle.program.specs.Command.{rowAt, rowOf, opcode, operandsOf, width, names, named, times, held, isEnd, usesCell, operandWhere};
-ghost use Rattle.program.specs.Coding.{coded, isKind, padded, slotIn, weight};
+ghost use Rattle.program.specs.Coding.{coded, isKind, padded, slotIn};
+use super::rows::column;
 
 // A command with its operands as they stand in the table.
 pub enum Command {
@@ -27,9 +27,6 @@ pub enum Command {
     Atom(u8),
 }
 
-// How many commands there are.
-pub const COMMANDS: usize = 17;
-
 // The kinds of operands that the code asks for; the others are 1 c, 2 a, 3 o, 4 m, 8 d, and 0 for v or none.
 const BODY: usize = 5;
 
@@ -37,40 +34,11 @@ const RUNS: usize = 6;
 
 const HELD: usize = 7;
 
-// A row for each command byte: the width, the kinds of operands 1 to 3, the own work, activities, clocks and accumulators.
-const ROWS: [[u8; 8]; 17] = [
-    [1, 0, 0, 0, 1, 0, 0, 0],
-    [1, 0, 0, 0, 2, 0, 0, 0],
-    [2, 1, 0, 0, 1, 0, 1, 0],
-    [2, 1, 0, 0, 1, 0, 0, 0],
-    [2, 1, 0, 0, 1, 0, 0, 0],
-    [3, 5, 4, 0, 1, 1, 0, 0],
-    [2, 5, 0, 0, 1, 0, 0, 0],
-    [3, 6, 5, 0, 1, 0, 0, 0],
-    [3, 2, 3, 0, 1, 0, 0, 1],
-    [2, 2, 0, 0, 1, 0, 0, 0],
-    [2, 2, 0, 0, 1, 0, 0, 0],
-    [2, 2, 0, 0, 1, 0, 0, 0],
-    [5, 0, 0, 0, 1, 0, 0, 0],
-    [2, 8, 0, 0, 1, 0, 0, 0],
-    [2, 8, 0, 0, 1, 0, 0, 0],
-    [2, 8, 0, 0, 1, 0, 0, 0],
-    [2, 7, 0, 0, 1, 0, 0, 0],
-];
-
 // A byte as a number of the machine's width.
 pub fn wide(x: u8) -> usize
     ensures { λ r. ⌜ (r ≡ x) × (r < 256) ⌝ }
 {
     x as usize
-}
-
-// Entry k of the row of a command byte.
-pub fn column(op: usize, k: usize) -> usize
-    requires { ⌜ (op < 17) × (k < 8) ⌝ }
-    ensures { λ r. ⌜ (r ≡ getD (coded (rowAt op)) k 0) × (r < 256) ⌝ }
-{
-    wide(ROWS[op][k])
 }
 
 // A command's byte.
@@ -167,14 +135,6 @@ pub fn width(command: Command) -> usize
     ensures { λ r. ⌜ r ≡ width command ⌝ }
 {
     column(opcode(command), 0)
-}
-
-// Entry k of what a command counts by itself: work 0, activities 1, clocks 2, accumulators 3.
-pub fn own(command: Command, k: usize) -> usize
-    requires { ⌜ k < 4 ⌝ }
-    ensures { λ r. ⌜ (r ≡ weight k command) × (r < 256) ⌝ }
-{
-    column(opcode(command), 4 + k)
 }
 
 // Whether a command names a body.

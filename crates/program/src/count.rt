@@ -3,16 +3,26 @@ ghost use mathlib.Core.Path.{_≡_};
 ghost use Prim.Native.Nat.{_+_, _<_, _≤_};
 ghost use lib.ListN.{getD, set};
 ghost use Rattle.program.specs.Scan.{scan, layoutOf};
+ghost use Rattle.program.specs.Coding.{weight};
 ghost use Rattle.program.specs.Counting.{cap, Small, Added, Counts, Counting, Filled};
 use super::command::Command;
 use super::command::is_end;
 use super::command::named;
-use super::command::own;
+use super::command::opcode;
 use super::command::times;
 use super::reading::Reading;
 use super::reading::read;
+use super::rows::column;
 use super::scan::Layout;
 use super::scan::left_after;
+
+// Entry k of what a command counts by itself: work 0, activities 1, clocks 2, accumulators 3.
+fn own(command: Command, k: usize) -> usize
+    requires { ⌜ k < 4 ⌝ }
+    ensures { λ r. ⌜ (r ≡ weight k command) × (r < 256) ⌝ }
+{
+    column(opcode(command), 4 + k)
+}
 
 // A count, saturated one above the greatest limit.
 fn capped(x: u64) -> u64

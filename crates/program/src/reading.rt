@@ -6,8 +6,8 @@ ghost use Rattle.program.specs.Command.{word, rowAt};
 ghost use Rattle.program.specs.Coding.{withinCode, Made};
 ghost use Rattle.program.specs.Reading.{read, allInside};
 use super::command::Command;
-use super::command::column;
 use super::command::wide;
+use super::rows::column;
 
 // What stands at the start of a slice.
 pub enum Reading {
@@ -60,7 +60,7 @@ fn value(code: &[u8]) -> u32
 }
 
 // The command of a byte with operands x and y, or the value v.
-pub fn command_of(op: usize, x: u8, y: u8, v: u32) -> Command
+fn command_of(op: usize, x: u8, y: u8, v: u32) -> Command
     requires { ⌜ op < 17 ⌝ }
     ensures { λ r. ⌜ Made op x y v r ⌝ }
 {

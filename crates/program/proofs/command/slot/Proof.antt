@@ -7,7 +7,7 @@ use Rattle.program.proofs.command.slot.Statement.{statement}
 use Rattle.program.proofs.command.slot.Tie as tie
 use Rattle.program.proofs.command.slot.Reads as reads
 use Rattle.program.proofs.command.slot.Lts as lts
-use Rattle.program.proofs.command.column.Reads as column-reads
+use Rattle.program.proofs.rows.column.Reads as column-reads
 
 column-requires : tie.Need-column-requires
 column-requires c κs = search needs

@@ -7,7 +7,7 @@ use Rattle.program.proofs.command.width.Statement.{statement}
 use Rattle.program.proofs.command.width.Tie as tie
 use Rattle.program.proofs.command.width.Reads as reads
 use Rattle.program.proofs.command.width.Lts as lts
-use Rattle.program.proofs.command.column.Reads as column-reads
+use Rattle.program.proofs.rows.column.Reads as column-reads
 use Rattle.program.proofs.command.opcode.Reads as opcode-reads
 
 opcode-requires : tie.Need-opcode-requires

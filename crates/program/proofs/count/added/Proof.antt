@@ -11,7 +11,7 @@ use Rattle.program.proofs.count.added.Statement.{statement}
 use Rattle.program.proofs.count.added.Tie as tie
 use Rattle.program.proofs.count.added.Reads as reads
 use Rattle.program.proofs.count.added.Lts as lts
-use Rattle.program.proofs.command.own.Reads as own-reads
+use Rattle.program.proofs.count.own.Reads as own-reads
 use Rattle.program.proofs.count.capped.Reads as capped-reads
 
 abbrev Inv-loop : tie.InvT-loop

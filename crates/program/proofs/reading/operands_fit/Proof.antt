@@ -12,7 +12,7 @@ use Rattle.program.proofs.reading.operands_fit.Statement.{statement}
 use Rattle.program.proofs.reading.operands_fit.Tie as tie
 use Rattle.program.proofs.reading.operands_fit.Reads as reads
 use Rattle.program.proofs.reading.operands_fit.Lts as lts
-use Rattle.program.proofs.command.column.Reads as column-reads
+use Rattle.program.proofs.rows.column.Reads as column-reads
 use Rattle.program.proofs.reading.byte_at.Reads as byte-at-reads
 use Rattle.program.proofs.reading.within.Reads as within-reads
 

@@ -11,7 +11,7 @@ use Rattle.program.proofs.reading.read.Statement.{statement}
 use Rattle.program.proofs.reading.read.Tie as tie
 use Rattle.program.proofs.reading.read.Reads as reads
 use Rattle.program.proofs.reading.read.Lts as lts
-use Rattle.program.proofs.command.column.Reads as column-reads
+use Rattle.program.proofs.rows.column.Reads as column-reads
 use Rattle.program.proofs.command.wide.Reads as wide-reads
 use Rattle.program.proofs.reading.byte_at.Reads as byte-at-reads
 use Rattle.program.proofs.reading.command_of.Reads as command-of-reads

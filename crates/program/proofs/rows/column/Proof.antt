@@ -5,10 +5,10 @@ use mathlib.Core.List.{List}
 use lib.ListN.{getD}
 use Rattle.program.proofs.RowLaws.{row-coded}
 use borrow.Author.Needs.{needs}
-use Rattle.program.proofs.command.column.Statement.{statement}
-use Rattle.program.proofs.command.column.Tie as tie
-use Rattle.program.proofs.command.column.Reads as reads
-use Rattle.program.proofs.command.column.Lts as lts
+use Rattle.program.proofs.rows.column.Statement.{statement}
+use Rattle.program.proofs.rows.column.Tie as tie
+use Rattle.program.proofs.rows.column.Reads as reads
+use Rattle.program.proofs.rows.column.Lts as lts
 use Rattle.program.proofs.command.wide.Reads as wide-reads
 
 mul-wide : tie.Need-mul-wide

@@ -6,11 +6,11 @@ use lib.Seq.{getD-drop}
 use Rattle.program.specs.Command.{rowOf, rowAt, opcode}
 use Rattle.program.specs.Coding.{coded, weight}
 use borrow.Author.Needs.{needs}
-use Rattle.program.proofs.command.own.Statement.{statement}
-use Rattle.program.proofs.command.own.Tie as tie
-use Rattle.program.proofs.command.own.Reads as reads
-use Rattle.program.proofs.command.own.Lts as lts
-use Rattle.program.proofs.command.column.Reads as column-reads
+use Rattle.program.proofs.count.own.Statement.{statement}
+use Rattle.program.proofs.count.own.Tie as tie
+use Rattle.program.proofs.count.own.Reads as reads
+use Rattle.program.proofs.count.own.Lts as lts
+use Rattle.program.proofs.rows.column.Reads as column-reads
 use Rattle.program.proofs.command.opcode.Reads as opcode-reads
 
 opcode-requires : tie.Need-opcode-requires
