@@ -25,7 +25,7 @@ read (op ∷ s) =
     (cond (ltb (length s) (length kinds)) Cut
     (cond (allInside kinds s) (Whole (commandOf op s) (length kinds + 1)) Outside))
 
--- A reading, and where it is a whole command, what `rest` reads past its bytes less one.
+-- A reading, and after a whole command what `rest` reads: `rest` stands past the command's first byte and is told how many more to skip.
 abbrev pub andOn : Reading → (ℕ → List Reading) → List Reading
 andOn (Whole c size) rest = Whole c size ∷ rest (size - 1)
 andOn Unknown rest = Unknown ∷ []

@@ -23,7 +23,7 @@ use Rattle.rules.specs.Effects.{applied, envOf}
 use Rattle.rules.specs.WellFormed.{wellFormed}
 use Rattle.rules.specs.Steps.{Limits, at, refusal, step, stepped, fault, effect, startState, ready, canStep, waits}
 use Rattle.rules.specs.Runs.{taken, run, runFrom, answers, answersFrom, isAccepted, isFault, someFault, finished}
-use Rattle.rules.specs.Demand3.{isOfRun, allOfRun, Demand3}
+use Rattle.rules.specs.Demand3.{isOfRun, allOfRun, Demand3, AtEveryPoint}
 use Rattle.rules.proofs.Tests.{true-false, and-intro}
 use Rattle.rules.proofs.Search.{allBelow-intro, allBelow-at}
 use Rattle.rules.proofs.Sums.{sumBelow, sumBelow-same}
@@ -363,7 +363,12 @@ module _ (l : Limits) (t : List ℕ) (w : l .work ≤ l .phase) (n : numberOf (l
         alive = alive (run l t order) (good-at order);
         over = over (run l t order) (good-at order);
         steps = steps (run l t order) (good-at order);
+        bounded = omega (arith, counted order, good-at order .reached .work);
         whole = whole order;
         less = less order;
         stable = λ before after e c q h z. subst (λ o. quiescent (run l t o) c q ≡ true) e (stable before after c q h z);
       }
+
+  -- And so at every point of the run.
+  pub at-every-point : (order : List ℕ) → AtEveryPoint l t order
+  at-every-point order = record { holds = λ before after e. demand3 before }

@@ -1,5 +1,5 @@
 -- The cases of document 01 marked P, and cases of our own, each a table with an order and what is expected.
-use Prim.Native.Nat.{ℕ}
+use Prim.Native.Nat.{ℕ, _+_}
 use mathlib.Core.List.{List, [], _∷_, map}
 use mathlib.Core.Bool.{Bool, true, false, cond, _&&_}
 use lib.Dec.{eqb}
@@ -9,7 +9,8 @@ use Rattle.rules.specs.Search.{countBelow}
 use Rattle.rules.specs.State.{answerNumber, ended}
 use Rattle.rules.specs.declared.state.State.{State}
 use Rattle.rules.specs.Steps.{base, startState, start, advance}
-use Rattle.rules.specs.Runs.{run, answers}
+use Rattle.rules.specs.declared.answer.Answer.{Answer}
+use Rattle.rules.specs.Runs.{run, answers, isAccepted}
 
 -- The start's answer; the work and the activities counted; the steps' answers; at the end the steps taken, the activities ended and those spawned.
 pub record Expected : Type 0 where
@@ -49,20 +50,58 @@ accepts c =
 unfoldable pub holdsFor : Case → Bool
 holdsFor c =
     let n = answerNumber (start base (c .table) .answer) in
-    let run = accepts c in
-    eqb n (c .expected .number) && cond (eqb n 0) run true
+    let whole = accepts c in
+    eqb n (c .expected .number) && cond (eqb n 0) whole true
 
 unfoldable pub allHold : List Case → Bool
 allHold [] = true
 allHold (c ∷ cs) = let r = allHold cs in holdsFor c && r
+
+-- The lines of a walk: the activity, the answer and the steps taken so far, `taken` of them before the first.
+unfoldable pub linesFrom : ℕ → List ℕ → List Answer → List (List ℕ)
+linesFrom taken [] more = []
+linesFrom taken (i ∷ order) [] = []
+linesFrom taken (i ∷ order) (a ∷ more) =
+    let next = taken + cond (isAccepted a) 1 0 in
+    (i ∷ answerNumber a ∷ next ∷ []) ∷ linesFrom next order more
+
+unfoldable pub sameLines : List (List ℕ) → List (List ℕ) → Bool
+sameLines [] [] = true
+sameLines [] (y ∷ ys) = false
+sameLines (x ∷ xs) [] = false
+sameLines (x ∷ xs) (y ∷ ys) = let r = sameLines xs ys in sameList x y && r
+
+-- The walk that document 01 prints, line by line.
+unfoldable pub printed : List (List ℕ)
+printed =
+    (0 ∷ 0 ∷ 1 ∷ [])
+    ∷ (0 ∷ 0 ∷ 2 ∷ [])
+    ∷ (0 ∷ 0 ∷ 3 ∷ [])
+    ∷ (0 ∷ 16 ∷ 3 ∷ [])
+    ∷ (1 ∷ 0 ∷ 4 ∷ [])
+    ∷ (0 ∷ 0 ∷ 5 ∷ [])
+    ∷ (0 ∷ 0 ∷ 6 ∷ [])
+    ∷ (1 ∷ 0 ∷ 7 ∷ [])
+    ∷ (1 ∷ 0 ∷ 8 ∷ [])
+    ∷ (0 ∷ 15 ∷ 8 ∷ [])
+    ∷ []
+
+abbrev pub walkTable : List ℕ
+walkTable = 0x02 ∷ 0x02 ∷ 0x00 ∷ 0x05 ∷ 0x01 ∷ 0x01 ∷ 0x01 ∷ 0x00 ∷ 0x01 ∷ 0x00 ∷ []
+
+abbrev pub walkOrder : List ℕ
+walkOrder = 0 ∷ 0 ∷ 0 ∷ 0 ∷ 1 ∷ 0 ∷ 0 ∷ 1 ∷ 1 ∷ 0 ∷ []
+
+unfoldable pub walkPrints : Bool
+walkPrints = sameLines (linesFrom 0 walkOrder (answers base walkTable walkOrder)) printed
 
 -- MARKED P
 
 unfoldable pub marked : List Case
 marked =
     record {
-      table = 0x02 ∷ 0x02 ∷ 0x00 ∷ 0x05 ∷ 0x01 ∷ 0x01 ∷ 0x01 ∷ 0x00 ∷ 0x01 ∷ 0x00 ∷ [];
-      order = 0 ∷ 0 ∷ 0 ∷ 0 ∷ 1 ∷ 0 ∷ 0 ∷ 1 ∷ 1 ∷ 0 ∷ [];
+      table = walkTable;
+      order = walkOrder;
       expected = record { number = 0; work = 8; activities = 2; answers = 0 ∷ 0 ∷ 0 ∷ 16 ∷ 0 ∷ 0 ∷ 0 ∷ 0 ∷ 0 ∷ 15 ∷ []; taken = 8; ended = 2; spawned = 2 };
     }
     ∷ record { table = 0x01 ∷ 0x00 ∷ []; order = 0 ∷ []; expected = record { number = 0; work = 1; activities = 1; answers = 0 ∷ []; taken = 1; ended = 1; spawned = 1 } }
@@ -123,8 +162,32 @@ ownTables =
 
 unfoldable pub own : List Answered
 own =
-    -- "Passing .. makes each live": ASYNC of a clock after a NEXT.
+    -- DROP: "the name is free". RESUME: "again changes nothing".
     record {
+      table = 0x01 ∷ 0x02 ∷ 0x00 ∷ 0x04 ∷ 0x00 ∷ 0x02 ∷ 0x00 ∷ 0x03 ∷ 0x00 ∷ 0x03 ∷ 0x00 ∷ 0x01 ∷ 0x00 ∷ [];
+      order = 0 ∷ 0 ∷ 0 ∷ 0 ∷ 0 ∷ 0 ∷ 0 ∷ 0 ∷ [];
+      answers = 0 ∷ 0 ∷ 0 ∷ 0 ∷ 0 ∷ 0 ∷ 0 ∷ 0 ∷ [];
+    }
+    -- "at the spawner's phase": a child of phase 1 holds nobody up once it has come to its NEXT.
+    ∷ record {
+      table = 0x02 ∷ 0x02 ∷ 0x00 ∷ 0x01 ∷ 0x05 ∷ 0x01 ∷ 0x01 ∷ 0x01 ∷ 0x00 ∷ 0x01 ∷ 0x00 ∷ [];
+      order = 0 ∷ 0 ∷ 0 ∷ 0 ∷ 0 ∷ 0 ∷ 1 ∷ 0 ∷ [];
+      answers = 0 ∷ 0 ∷ 0 ∷ 0 ∷ 0 ∷ 16 ∷ 0 ∷ 0 ∷ [];
+    }
+    -- F1 of one clock of m comes before F2 of another.
+    ∷ record {
+      table = 0x02 ∷ 0x02 ∷ 0x00 ∷ 0x03 ∷ 0x00 ∷ 0x05 ∷ 0x01 ∷ 0x03 ∷ 0x00 ∷ 0x00 ∷ [];
+      order = 0 ∷ 0 ∷ 0 ∷ [];
+      answers = 0 ∷ 0 ∷ 101 ∷ [];
+    }
+    -- F3 in a REPEAT body inside the own FINISH body.
+    ∷ record {
+      table = 0x04 ∷ 0x02 ∷ 0x00 ∷ 0x06 ∷ 0x01 ∷ 0x00 ∷ 0x07 ∷ 0x01 ∷ 0x02 ∷ 0x00 ∷ 0x05 ∷ 0x03 ∷ 0x01 ∷ 0x00 ∷ 0x00 ∷ [];
+      order = 0 ∷ 0 ∷ 0 ∷ 0 ∷ [];
+      answers = 0 ∷ 0 ∷ 0 ∷ 103 ∷ [];
+    }
+    -- "Passing .. makes each live": ASYNC of a clock after a NEXT.
+    ∷ record {
       table = 0x02 ∷ 0x02 ∷ 0x00 ∷ 0x01 ∷ 0x05 ∷ 0x01 ∷ 0x01 ∷ 0x00 ∷ 0x00 ∷ [];
       order = 0 ∷ 0 ∷ 0 ∷ 0 ∷ [];
       answers = 0 ∷ 0 ∷ 0 ∷ 0 ∷ [];

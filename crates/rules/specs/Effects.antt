@@ -243,7 +243,7 @@ touching p a t = record { self = past p (withRegister a (t .register)); spawned 
 abbrev pub untouched : Activity → Touch
 untouched a = record { register = a .register; stores = [] }
 
--- What the command x does that activity i, which is a, stands on.
+-- What a command does that activity i, which is a, stands on, with the commands inside it: those of an ATOM.
 unfoldable pub effectOf : Program → Env → ℕ → Activity → Command → List Command → Effect
 effectOf p e i a End inner = alone (endOf p a)
 effectOf p e i a Next inner = alone (nextOf p a (isAtBarrier (a .status)))
@@ -306,7 +306,7 @@ withWritten s (make c) = set (s .accs) (s .accumulators) c
 withWritten s (offer x v) = set (s .accs) x (withValue (accumulator s x) (reduce (accumulator s x .operator) (accumulator s x .value) v))
 withWritten s (reset x v) = set (s .accs) x (withValue (accumulator s x) v)
 
--- Stores in turn, the newest last.
+-- The stores put into the cells, the oldest first: it stands last in the list.
 unfoldable pub withStores : List ℕ → List Stored → List ℕ
 withStores cells [] = cells
 withStores cells (x ∷ xs) = set (withStores cells xs) (x .cell) (x .value)

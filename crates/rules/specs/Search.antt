@@ -30,7 +30,7 @@ listFrom zero k f = []
 listFrom (suc n) k f = f k ∷ listFrom n (suc k) f
 
 -- The chain x, link x, link (link x) .. comes to w by a last link from a y that passes. Links fall, so the chain is looked at only above w; the
--- fourth number bounds its length.
+-- number after w bounds its length.
 unfoldable pub chain : (ℕ → ℕ) → (ℕ → Bool) → ℕ → ℕ → ℕ → Bool
 chain link test w zero x = false
 chain link test w (suc n) x = let r = chain link test w n (link x) in ltb w x && ((eqb (link x) w && test x) || r)

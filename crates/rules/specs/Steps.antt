@@ -83,7 +83,7 @@ exceeds l p s e =
 abbrev pub stepped : Answer → State → Stepped
 stepped answer s = record { answer = answer; state = s }
 
--- A step of activity i of a well-formed state: numbers 14 to 17, or "the one next state that the rules give".
+-- A step of activity i of a well-formed state: numbers 14 to 17, or the one next state.
 unfoldable pub advance : Limits → Program → State → ℕ → Stepped
 advance l p s i =
     let r = refusal p s i in
@@ -134,8 +134,8 @@ canStep p s i = eqb (refusal p s i) 0
 unfoldable pub ready : Limits → List ℕ → State → Ready
 ready l t s =
     let n = unfit l (numberOf (l .work) t) (programOf t) s in
-    let set = bitsBelow 64 (canStep (programOf t) s) in
-    record { set = cond (eqb n 0) set 0; number = n }
+    let members = bitsBelow 64 (canStep (programOf t) s) in
+    record { set = cond (eqb n 0) members 0; number = n }
 
 -- "sixty-four rows of sixteen entries, by activity and clock number: 0 not held, 1 live, 2 quiesced"
 unfoldable pub registrationOn : ℕ → List Hold → ℕ

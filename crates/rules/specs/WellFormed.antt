@@ -80,7 +80,7 @@ isPlaced p f = ltb (f .body) (length p) && isPlace (getD p (f .body) []) (f .off
 unfoldable pub isBottom : Frame → Bool
 isBottom f = eqb (f .runs) 0 && eqb (f .first) 0
 
--- A frame on another: it is run by the other's command, and "stacked bodies do not rise" is not so.
+-- A frame on another: it is run by the other's command, and its body is greater ("stacked bodies do not rise" turns it down).
 unfoldable pub isStacked : Program → ℕ → Frame → Frame → Bool
 isStacked p made below f = runBy made (here p below .command) f && ltb (below .body) (f .body)
 
