@@ -1,0 +1,12 @@
+pub mod Places
+pub mod Stacks
+pub mod Chains
+pub mod Facing
+pub mod Exceeding
+pub mod Readies
+pub mod Turns
+pub mod Calls
+pub mod Runs
+pub mod Storing
+pub mod Performed
+pub mod Passing

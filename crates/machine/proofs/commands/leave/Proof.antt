@@ -1,0 +1,30 @@
+-- The activity goes on, and the state is the definition's.
+use mathlib.Core.Path.{_∙_}
+use Rattle.rules.specs.Effects.{effectOf}
+use Rattle.machine.specs.Perform.{Does}
+use Rattle.machine.proofs.Stacks.{moved-past}
+use borrow.Author.Needs.{needs}
+use Rattle.machine.proofs.commands.leave.Statement.{statement}
+use Rattle.machine.proofs.commands.leave.Tie as tie
+
+wide-requires : tie.Need-wide-requires
+wide-requires c κs = search needs
+
+no-hold-requires : tie.Need-no-hold-requires
+no-hold-requires c κs = search needs
+
+with-hold-requires : tie.Need-with-hold-requires
+with-hold-requires c κs = search needs
+
+alone-requires : tie.Need-alone-requires
+alone-requires c κs = search needs
+
+returns : tie.Need-returns
+unfolding Does effectOf
+returns c = λ p inner e.
+    let own = rw (c .before .before .before .wide .ensures .0, c .before .before .no-hold .ensures) at (c .before .with-hold .ensures) ∙ moved-past p _ e in
+    rw (own) at (c .alone .ensures)
+
+pub leave-spec : {M : Type 1} → statement M
+leave-spec =
+    tie.close (tie.spec wide-requires no-hold-requires with-hold-requires alone-requires returns)

@@ -1,0 +1,26 @@
+-- The activity goes on, and the state is the definition's.
+use mathlib.Core.Path.{_∙_}
+use Rattle.rules.specs.Effects.{effectOf}
+use Rattle.machine.specs.Perform.{Does}
+use Rattle.machine.proofs.Stacks.{moved-past}
+use borrow.Author.Needs.{needs}
+use Rattle.machine.proofs.commands.offer.Statement.{statement}
+use Rattle.machine.proofs.commands.offer.Tie as tie
+
+moved-requires : tie.Need-moved-requires
+moved-requires c κs = search needs
+
+number-under-requires : tie.Need-number-under-requires
+number-under-requires c κs = search needs
+
+offering-requires : tie.Need-offering-requires
+offering-requires c κs = search needs
+
+returns : tie.Need-returns
+unfolding Does effectOf
+returns c = λ p inner e.
+    let own = c .before .before .moved .ensures ∙ moved-past p _ e in
+    rw (own, c .before .number-under .ensures .0) at (c .offering .ensures)
+
+pub offer-spec : {M : Type 1} → statement M
+offer-spec = tie.close (tie.spec moved-requires number-under-requires offering-requires returns)

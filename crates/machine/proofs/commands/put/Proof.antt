@@ -1,0 +1,23 @@
+-- The activity goes on, and the state is the definition's.
+use mathlib.Core.Path.{_∙_}
+use Rattle.rules.specs.Effects.{effectOf}
+use Rattle.machine.specs.Perform.{Does}
+use Rattle.machine.proofs.Stacks.{moved-past}
+use borrow.Author.Needs.{needs}
+use Rattle.machine.proofs.commands.put.Statement.{statement}
+use Rattle.machine.proofs.commands.put.Tie as tie
+
+with-register-requires : tie.Need-with-register-requires
+with-register-requires c κs = search needs
+
+alone-requires : tie.Need-alone-requires
+alone-requires c κs = search needs
+
+returns : tie.Need-returns
+unfolding Does effectOf
+returns c = λ p inner e.
+    let own = c .before .with-register .ensures ∙ moved-past p _ e in
+    rw own at (c .alone .ensures)
+
+pub put-spec : {M : Type 1} → statement M
+put-spec = tie.close (tie.spec with-register-requires alone-requires returns)

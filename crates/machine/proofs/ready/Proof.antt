@@ -1,0 +1,26 @@
+-- Numbers 1 to 13 by the check, then the set.
+use Rattle.machine.proofs.Calls.{fit-checked, ready-unfit, ready-fit}
+use borrow.Author.Needs.{needs}
+use Rattle.machine.proofs.ready.Statement.{statement}
+use Rattle.machine.proofs.ready.Tie as tie
+
+check-requires : tie.Need-check-requires
+check-requires c κs = search needs
+
+returns : tie.Need-returns
+returns c = let s = c .before .before .before .args in ready-unfit (s .table .now) (s .s) (c .before .check .ensures .0) (c .if1 .taken)
+
+ready-set-requires : tie.Need-ready-set-requires
+ready-set-requires c κs = let s = c .before .before .before .before .before .args in let k = c .before .before .before .check .ensures in fit-checked (s .table .now) (s .s) (k .0) (c .before .before .if1 .left) (k .1)
+
+returns-2 : tie.Need-returns-2
+returns-2 c = let s = c .before .before .before .before .before .before .args in ready-fit (s .table .now) (s .s) (c .before .before .before .before .check .ensures .0) (c .before .before .before .if1 .left) (c .ready-set .ensures)
+
+pub ready-spec : {M : Type 1} → statement M
+ready-spec =
+    tie.close
+    (tie.spec
+    check-requires
+    returns
+    ready-set-requires
+    returns-2)

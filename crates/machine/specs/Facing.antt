@@ -1,0 +1,28 @@
+-- What is known of an activity that has not ended, where a command of it is looked at.
+use Prim.Native.Nat.{ℕ, _≤_, _<_}
+use mathlib.Core.Path.{_≡_}
+use mathlib.Core.List.{List}
+use Rattle.program.specs.Bodies.{programOf}
+use Rattle.program.specs.declared.command.Command.{Command}
+use Rattle.program.specs.declared.scan.Layout.{Layout}
+use Rattle.rules.specs.declared.state.Activity.{Activity}
+use Rattle.rules.specs.declared.state.State.{State}
+use Rattle.rules.specs.State.{top, bound}
+use Rattle.rules.specs.Tree.{here}
+use Rattle.machine.specs.Known.{Known}
+use Rattle.machine.specs.Stack.{Stacked}
+use Rattle.machine.specs.Apply.{Rooted}
+
+-- The activity stands on the command, and its accumulator names are of accumulators that there is room for.
+pub record Facing (t : List ℕ) (l : Layout) (a : Activity) (command : Command) : Type 0 where
+  pub known : Known t l
+  pub stack : Stacked (programOf t) a
+  pub stands : command ≡ here (programOf t) (top a) .command
+  pub bindings : (n : ℕ) → n < 8 → bound a n ≤ 16
+
+-- The same of activity i of a state in which spawners are lower than their children.
+pub record Placed (t : List ℕ) (l : Layout) (s : State) (i : ℕ) (a : Activity) : Type 0 where
+  pub known : Known t l
+  pub stack : Stacked (programOf t) a
+  pub rooted : Rooted s
+  pub below : i < 64

@@ -1,0 +1,8 @@
+pub mod Known
+pub mod Stack
+pub mod Apply
+pub mod Facing
+pub mod Turn
+pub mod Ran
+pub mod Cells
+pub mod Perform

@@ -1,0 +1,39 @@
+-- What a run promises: how it ended, the state after it, and the answers in the buffer.
+use Prim.Native.Nat.{ℕ}
+use mathlib.Core.List.{List, map, _++_}
+use mathlib.Core.Bool.{Bool, cond}
+use mathlib.Core.Path.{_≡_}
+use lib.ListN.{length, drop}
+use lib.Dec.{leb, eqb}
+use Rattle.program.specs.Table.{numberOf}
+use Rattle.rules.specs.declared.state.State.{State}
+use Rattle.rules.specs.declared.answer.Completion.{Completion}
+use Rattle.rules.specs.declared.answer.Completion.the-variants.{Done, Refused, Short}
+use Rattle.rules.specs.declared.answer.Ran.{Ran}
+use Rattle.rules.specs.State.{answerNumber, zeroState}
+use Rattle.rules.specs.Steps.{base}
+use Rattle.rules.specs.Runs.{run, answers}
+use Rattle.rules.specs.Demand3.{AtEveryPoint}
+
+abbrev ended : Completion → State → Ran
+ended completion s = record { completion = completion; state = s }
+
+-- The table's number comes first, then whether the buffer has room for an answer to each step.
+unfoldable pub ranOf : List ℕ → List ℕ → ℕ → Ran
+ranOf t order room =
+    let done = ended Done (run base t order) in
+    let short = ended Short zeroState in
+    let refused = ended (Refused (numberOf 65535 t)) zeroState in
+    cond (eqb (numberOf 65535 t) 0) (cond (leb (length order) room) done short) refused
+
+-- The answers stand at the buffer's start, what is past them stays; a run that is not done leaves it as it was.
+unfoldable pub answered : List ℕ → List ℕ → List ℕ → List ℕ
+answered t order buffer =
+    let filled = map answerNumber (answers base t order) ++ drop (length order) buffer in
+    cond (eqb (numberOf 65535 t) 0) (cond (leb (length order) (length buffer)) filled buffer) buffer
+
+-- What `run` returns, what it leaves in the buffer, and demand 3 at every point of the run of an accepted table.
+pub record Runs (t order before after : List ℕ) (r : Ran) : Type 0 where
+  pub result : r ≡ ranOf t order (length before)
+  pub buffer : after ≡ answered t order before
+  pub demand : numberOf 65535 t ≡ 0 → AtEveryPoint base t order

@@ -1,0 +1,30 @@
+-- Stacks: what an activity's frames must be for its body to go on, and the changes that the code makes one at a time.
+use Prim.Native.Nat.{ℕ, _+_, _≤_, _<_}
+use mathlib.Core.Path.{_≡_}
+use mathlib.Core.Bool.{true, false}
+use Rattle.program.specs.Command.{isEnd}
+use Rattle.program.specs.Bodies.{Program}
+use Rattle.rules.specs.declared.state.Activity.{Activity}
+use Rattle.rules.specs.State.{frame, top}
+use Rattle.rules.specs.Tree.{here}
+use Rattle.rules.specs.Effects.{withTop}
+use Rattle.rules.specs.WellFormed.{isPlaced}
+
+-- The stack has a top, and room is for sixteen.
+pub record Standing (a : Activity) : Type 0 where
+  pub some : 0 < a .depth
+  pub few : a .depth ≤ 16
+
+-- The stack of a well-formed activity that has not ended.
+pub record Stacked (p : Program) (a : Activity) : Type 0 where
+  pub some : 0 < a .depth
+  pub few : a .depth ≤ 16
+  pub placed : (d : ℕ) → d < a .depth → isPlaced p (frame a d) ≡ true
+  -- below the top a FINISH or REPEAT stands
+  pub goes : (d : ℕ) → d + 1 < a .depth → isEnd (here p (frame a d) .command) ≡ false
+  -- stacked bodies rise
+  pub high : a .depth ≤ top a .body + 1
+
+-- The top frame at another offset.
+unfoldable pub movedTo : Activity → ℕ → Activity
+movedTo a offset = withTop a (record { offset = offset; body = top a .body; runs = top a .runs; first = top a .first })

@@ -1,0 +1,132 @@
+// The machine: start, one step, the ready set, the standing sheet and whole runs.
+ghost use mathlib.Core.Path.{_≡_};
+ghost use Rattle.rules.specs.Steps.{base, start, step, ready, registrations, registrationsNumber};
+ghost use Rattle.machine.specs.Ran.{Runs};
+use advance::advance;
+use clocks::sheet::sheet_of;
+use look::ready_set;
+use program::command::wide;
+use program::table::read_table;
+use rules::answer::Answer;
+use rules::answer::Completion;
+use rules::answer::Ran;
+use rules::answer::Ready;
+use rules::answer::Stepped;
+use rules::empty::start_state;
+use rules::empty::zero_state;
+use rules::numbers::answer_number;
+use rules::state::State;
+use rules::state::Status;
+use wellformed::check;
+
+mod place; // place.rt: the command that a frame stands on, and the place after it
+mod stack; // stack.rt: an activity's stack of bodies
+mod cells; // cells.rt: FETCH, STORE and ADD on the cells by value
+mod apply; // apply.rt: a state after an effect
+mod effects; // effects.rt: what a command does to its activity
+mod commands; // commands.rt: what a command does to a state
+mod perform; // perform.rt: a step that goes on, and a step that faults
+mod inside; // inside.rt: whether someone inside a finish has not ended
+mod faults; // faults.rt: the fault that a command meets
+mod waiting; // waiting.rt: whether an activity waits
+mod look; // look.rt: numbers 14 to 16, the fault and the command
+mod limits; // limits.rt: number 17
+mod advance; // advance.rt: a step of one activity of a well-formed state
+
+// The start state of a table: numbers 1 to 12.
+pub fn start(table: &[u8]) -> Stepped
+    ensures { λ r. ⌜ r ≡ start base (now (table .entry)) ⌝ }
+{
+    let read = read_table(table);
+    if read.number != 0 {
+        return Stepped {
+            answer: Answer::Refused(read.number),
+            state: zero_state(),
+        };
+    }
+    Stepped {
+        answer: Answer::Accepted(Status::Running),
+        state: start_state(),
+    }
+}
+
+// A step of an activity, whichever the host picks: numbers 1 to 17.
+pub fn step(table: &[u8], s: State, activity: usize) -> Stepped
+    ensures { λ r. ⌜ r ≡ step base (now (table .entry)) s activity ⌝ }
+{
+    let checked = check(table, s);
+    let number = checked.number;
+    if number != 0 {
+        return Stepped {
+            answer: Answer::Refused(number),
+            state: s,
+        };
+    }
+    let known = checked.table;
+    let layout = known.layout;
+    advance(table, layout, known.work, s, activity)
+}
+
+// Who can step: numbers 1 to 13.
+pub fn ready(table: &[u8], s: State) -> Ready
+    ensures { λ r. ⌜ r ≡ ready base (now (table .entry)) s ⌝ }
+{
+    let checked = check(table, s);
+    let number = checked.number;
+    if number != 0 {
+        return Ready { set: 0, number };
+    }
+    let known = checked.table;
+    let layout = known.layout;
+    Ready {
+        set: ready_set(table, layout, s),
+        number: 0,
+    }
+}
+
+// The standing sheet: numbers 1 to 13.
+pub fn registrations(table: &[u8], s: State, number: &mut u8) -> [[u8; 16]; 64]
+    ensures { λ r. ⌜ (r ≡ registrations base (now (table .entry)) s) × (now (number .exit) ≡ registrationsNumber base (now (table .entry)) s) ⌝ }
+{
+    let checked = check(table, s);
+    *number = checked.number;
+    if checked.number != 0 {
+        return [[0u8; 16]; 64];
+    }
+    sheet_of(s)
+}
+
+// A whole run: the table is read once, and a step is taken for each byte of the order. Its answer's number goes into the buffer.
+pub fn run(table: &[u8], order: &[u8], answers: &mut [u8]) -> Ran
+    ensures { λ r. ⌜ Runs (now (table .entry)) (now (order .entry)) (now (answers .entry)) (now (answers .exit)) r ⌝ }
+{
+    let found = read_table(table);
+    let number = found.number;
+    if number != 0 {
+        return Ran {
+            completion: Completion::Refused(number),
+            state: zero_state(),
+        };
+    }
+    if answers.len() < order.len() {
+        return Ran {
+            completion: Completion::Short,
+            state: zero_state(),
+        };
+    }
+    let layout = found.layout;
+    let work = found.work;
+    let mut state = start_state();
+    let mut k: usize = 0;
+    while k < order.len() {
+        let done = advance(table, layout, work, state, wide(order[k]));
+        let answer = done.answer;
+        answers[k] = answer_number(answer);
+        state = done.state;
+        k += 1;
+    }
+    Ran {
+        completion: Completion::Done,
+        state,
+    }
+}

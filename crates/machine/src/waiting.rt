@@ -1,0 +1,99 @@
+// Waiting: whether someone keeps the activity from taking its step.
+ghost use mathlib.Core.Path.{_≡_};
+ghost use mathlib.Core.Bool.{_&&_};
+ghost use Prim.Native.Nat.{_<_};
+ghost use Rattle.program.specs.Bodies.{programOf};
+ghost use Rattle.program.specs.declared.command.Command.the-variants.{End};
+ghost use Rattle.rules.specs.Search.{someBelow};
+ghost use Rattle.rules.specs.State.{isAtBarrier};
+ghost use Rattle.rules.specs.Tree.{inFinishBody};
+ghost use Rattle.rules.specs.Waiting.{behindOf, unendedBelow, waitsAt};
+ghost use Rattle.machine.specs.Known.{Known};
+ghost use Rattle.machine.specs.Stack.{Stacked};
+ghost use Rattle.machine.specs.Apply.{Rooted};
+ghost use Rattle.machine.specs.Facing.{Placed};
+use super::faults::finishes;
+use super::inside::someone_inside;
+use clocks::barrier::someone_behind;
+use program::command::Command;
+use program::command::wide;
+use program::scan::Layout;
+use rules::checks::is_at_barrier;
+use rules::state::Activity;
+use rules::state::State;
+
+// Whether the body at the top is one that a FINISH runs.
+pub fn in_finish_body(table: &[u8], layout: Layout, a: Activity) -> bool
+    requires { ⌜ Known (now table) layout × Stacked (programOf (now table)) a ⌝ }
+    ensures { λ r. ⌜ r ≡ inFinishBody (programOf (now (table .entry))) a ⌝ }
+{
+    if a.depth <= 1 {
+        return false;
+    }
+    finishes(table, layout, a, wide(a.depth) - 2)
+}
+
+// END of a FINISH body waits until every activity inside has ended.
+fn end_waits(table: &[u8], layout: Layout, s: State, i: usize, a: Activity) -> bool
+    requires { ⌜ Placed (now table) layout s i a ⌝ }
+    ensures { λ r. ⌜ r ≡ waitsAt (programOf (now (table .entry))) s i a End ⌝ }
+{
+    if !in_finish_body(table, layout, a) {
+        return false;
+    }
+    let at = wide(a.depth) - 1;
+    let f = a.frames[at];
+    someone_inside(s, i, f.first)
+}
+
+// Passing waits for a holder of an own clock that is behind.
+fn next_waits(s: State, a: Activity) -> bool
+    ensures { λ r. ⌜ r ≡ someBelow (s .activities) (λ x. isAtBarrier (a .status) && behindOf s a x) ⌝ }
+{
+    let status = a.status;
+    if !is_at_barrier(status) {
+        return false;
+    }
+    someone_behind(s, a)
+}
+
+// READ and RESET wait until every descendant has ended.
+fn read_waits(s: State, i: usize) -> bool
+    requires { ⌜ Rooted s × (i < 64) ⌝ }
+    ensures { λ r. ⌜ r ≡ someBelow (s .activities) (unendedBelow s i) ⌝ }
+{
+    someone_inside(s, i, 0)
+}
+
+// Whether the activity waits at the command that it stands on.
+pub fn waits_at(
+    table: &[u8],
+    layout: Layout,
+    s: State,
+    i: usize,
+    a: Activity,
+    command: Command,
+) -> bool
+    requires { ⌜ Placed (now table) layout s i a ⌝ }
+    ensures { λ r. ⌜ r ≡ waitsAt (programOf (now (table .entry))) s i a command ⌝ }
+{
+    match command {
+        Command::End => end_waits(table, layout, s, i, a),
+        Command::Next => next_waits(s, a),
+        Command::Clock(_) => false,
+        Command::Resume(_) => false,
+        Command::Drop(_) => false,
+        Command::Async(_, _) => false,
+        Command::Finish(_) => false,
+        Command::Repeat(_, _) => false,
+        Command::Acc(_, _) => false,
+        Command::Offer(_) => false,
+        Command::Read(_) => read_waits(s, i),
+        Command::Reset(_) => read_waits(s, i),
+        Command::Put(_) => false,
+        Command::Fetch(_) => false,
+        Command::Store(_) => false,
+        Command::Add(_) => false,
+        Command::Atom(_) => false,
+    }
+}

@@ -1,0 +1,58 @@
+-- By the command's byte.
+use borrow.Author.Needs.{needs}
+use mathlib.Core.Path.{_∙_}
+use Rattle.wellformed.proofs.Laws.{by-finish, by-repeat, by-no-other}
+use Rattle.wellformed.proofs.stack.run_by.Statement.{statement}
+use Rattle.wellformed.proofs.stack.run_by.Tie as tie
+
+opcode-requires : tie.Need-opcode-requires
+opcode-requires c κs = search needs
+
+named-requires : tie.Need-named-requires
+named-requires c κs = search needs
+
+finish-runs-requires : tie.Need-finish-runs-requires
+finish-runs-requires c κs = search needs
+
+returns : tie.Need-returns
+returns c =
+    let op = c .before .before .before in
+    let from = op .before .args in
+    c .finish-runs .ensures ∙ by-finish (from .made) (from .command) (from .f) _ _ (op .opcode .ensures .0) (c .before .named .ensures .0) (c .before .before .if1 .taken)
+
+times-requires : tie.Need-times-requires
+times-requires c κs = search needs
+
+named-requires-2 : tie.Need-named-requires-2
+named-requires-2 c κs = search needs
+
+repeat-runs-requires : tie.Need-repeat-runs-requires
+repeat-runs-requires c κs = search needs
+
+returns-2 : tie.Need-returns-2
+returns-2 c =
+    let taken = c .before .before .before in
+    let op = taken .before .before in
+    let from = op .before .args in
+    c .repeat-runs .ensures
+    ∙ by-repeat (from .made) (from .command) (from .f) _ _ (op .opcode .ensures .0) (c .before .named2 .ensures .0) _ (c .before .before .times .ensures .0) (taken .if2 .taken)
+
+returns-3 : tie.Need-returns-3
+returns-3 c =
+    let op = c .before .before in
+    let from = op .before .args in
+    by-no-other (from .made) (from .command) (from .f) _ (op .opcode .ensures .0) (c .before .if1 .left) (c .if2 .left)
+
+pub run-by-spec : {M : Type 1} → statement M
+run-by-spec =
+    tie.close
+    (tie.spec
+    opcode-requires
+    named-requires
+    finish-runs-requires
+    returns
+    times-requires
+    named-requires-2
+    repeat-runs-requires
+    returns-2
+    returns-3)

@@ -1,0 +1,50 @@
+// Number 13 of document 01: whether a state is fit for its table.
+ghost use mathlib.Core.Path.{_≡_};
+ghost use Rattle.program.specs.Bodies.{programOf};
+ghost use Rattle.program.specs.Table.{numberOf, tableOf};
+ghost use Rattle.rules.specs.Steps.{base, unfit};
+use program::places::places;
+use program::table::Table;
+use program::table::read_table;
+use rules::state::State;
+use whole::well_formed;
+
+mod place; // place.rt: the command that a frame stands on
+mod stack; // stack.rt: the stack of bodies of an activity
+mod clocks; // clocks.rt: the clock names of an activity
+mod unused; // unused.rt: activities that were not spawned
+mod activity; // activity.rt: activities that were spawned
+mod whole; // whole.rt: the whole state
+
+// The number 1 to 13 for which a table or a state is turned down, or 0; and the table as it was read.
+pub struct Checked {
+    pub number: u8,
+    pub table: Table,
+}
+
+// Numbers 1 to 13 in checking order: the table's, then the state's.
+pub fn check(table: &[u8], s: State) -> Checked
+    ensures { λ r. ⌜ (r .number ≡ unfit base (numberOf 65535 (now (table .entry))) (programOf (now (table .entry))) s) × (r .table ≡ tableOf 65535 (now (table .entry))) ⌝ }
+{
+    let read = read_table(table);
+    let number = read.number;
+    if number != 0 {
+        return Checked {
+            number,
+            table: read,
+        };
+    }
+    let marks = places(table);
+    let layout = read.layout;
+    let work = read.work;
+    if well_formed(table, layout, &marks, work, s) {
+        return Checked {
+            number: 0,
+            table: read,
+        };
+    }
+    Checked {
+        number: 13,
+        table: read,
+    }
+}
