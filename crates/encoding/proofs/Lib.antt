@@ -1,0 +1,10 @@
+pub mod NumberLaws
+pub mod PartLaws
+pub mod Passed
+pub mod Fits
+pub mod EnumLaws
+pub mod FromState
+pub mod FromBytes
+pub mod StateFits
+pub mod BytesFit
+pub mod StateLaws

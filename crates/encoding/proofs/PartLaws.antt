@@ -1,0 +1,250 @@
+-- Laws of parts: fields one after the other, and a list of n parts of k bytes each.
+use Prim.Native.Nat.{ℕ, zero, suc, _+_, _-_, _*_, _≤_, _<_}
+use native.Mathlib.Omega.{arith}
+use native.Mathlib.Nat.{not-suc-le-zero, le-of-suc-le-suc, mul-suc, mul-zero, mul-le-mul-left, suc-mul, zero-mul, add-comm, add-sub-cancel-left}
+use native.Mathlib.Numerals.{add-one}
+use mathlib.Core.List.{List, [], _∷_, _++_, append-nil, append-assoc}
+use mathlib.Core.Bool.{Bool, true, _&&_}
+use mathlib.Core.Path.{_≡_, refl, sym, ap, _∙_}
+use lib.ListN.{length, replicate, getD, take, drop, set, take-append-drop, length-append, length-drop, length-set}
+use lib.Seq.{take-at, drop-at, take-suc, take-suc-set, take-all, take-add, drop-drop, length-take-le, take-append-add}
+use borrow.Rule.Slice.PartMut.{putMid}
+use Rattle.rules.proofs.Tests.{and-true}
+use Rattle.encoding.specs.Bytes.{bytesOf, numberOf, part, byteAt, allZero, encodeEach, partsAt, partsPass}
+use Rattle.encoding.proofs.NumberLaws.{Bytes, bytes-take, bytes-drop, bytes-of-number, zeros}
+
+-- ONE FIELD AFTER THE OTHER: WRITING
+
+-- a part within the bytes is as long as asked for
+pub sized : (b : List ℕ) (at k m : ℕ) → m ≡ k → at + k ≤ length b → length (take m (drop at b)) ≡ k
+sized b at k m e h = rw e (length-take-le k (drop at b) (rw length-drop (omega arith)))
+
+-- the part of a turn of a loop
+pub turn : (k i : ℕ) → k * i + k - k * i ≡ k
+turn k i = add-sub-cancel-left (k * i) k
+
+-- lies within all parts
+pub turn-fits : {i n : ℕ} (k : ℕ) → i < n → k * i + k ≤ k * n
+turn-fits {i} k h = rw (← mul-suc) (mul-le-mul-left k h)
+
+-- and is as long as one
+pub turn-sized : (b : List ℕ) (k i n : ℕ) → length b ≡ k * n → i < n → length (take (k * i + k - k * i) (drop (k * i) b)) ≡ k
+turn-sized b k i n h j = sized b (k * i) k _ (turn k i) (rw h (turn-fits k j))
+
+-- n bytes, of which the first so many are written
+pub record Upto (l : List ℕ) (n at : ℕ) (p : List ℕ) : Type 0 where
+  pub full : length l ≡ n
+  pub done : take at l ≡ p
+
+-- none is written
+pub none-yet : (l : List ℕ) (n : ℕ) → length l ≡ n → Upto l n 0 []
+none-yet l n h = record { full = h; done = refl }
+
+-- a byte is stored behind them
+pub store : {l p : List ℕ} {n at : ℕ} (v : ℕ) → Upto l n at p → at < n → Upto (set l at v) n (suc at) (p ++ (v ∷ []))
+store {l} {p} {n} {at} v u h = record { full = length-set l at v ∙ u .full; done = rw (take-suc-set l at v (rw (u .full) h), u .done) }
+
+-- the same, where the byte is known by an equation
+pub store-as : {l p : List ℕ} {n at : ℕ} (v w : ℕ) → v ≡ w → Upto l n at p → at < n → Upto (set l at v) n (suc at) (p ++ (w ∷ []))
+store-as {l} {p} {n} {at} v w e u h = let s = store v u h in record { full = s .full; done = s .done ∙ rw e }
+
+-- a part is written behind them
+pub put : {l p : List ℕ} {n at : ℕ} (k m : ℕ) (e x : List ℕ) → Upto l n at p → at + k ≤ n → m ≡ k → length e ≡ length (take m (drop at l)) → e ≡ x → Upto (putMid at m l e) n (at + k) (p ++ x)
+put {l} {p} {n} {at} k m e x u h j w v =
+    let f : length l ≡ n = u .full in
+    let o : length e ≡ k = w ∙ sized l at k m j (omega arith) in
+    let q : length (take at l) ≡ at = length-take-le at l (omega arith) in
+    record {
+      full = simp (length-append, length-drop, q, o) (omega arith);
+      done =
+          ap (λ (i : ℕ). take (i + k) (putMid at m l e)) (sym q)
+          ∙ take-append-add (take at l) (e ++ drop m (drop at l)) k
+          ∙ rw (take-at e (drop m (drop at l)) k o, u .done, v);
+    }
+
+-- the same, where what is written goes by the part's length
+pub put-of : {l p : List ℕ} {n at : ℕ} (k : ℕ) (g : ℕ → List ℕ) (e : List ℕ) → Upto l n at p → at + k ≤ n → length e ≡ length (part l at k) → e ≡ g (length (part l at k)) → Upto (putMid at k l e) n (at + k) (p ++ g k)
+put-of {l} {p} {n} {at} k g e u h w v =
+    let f : length l ≡ n = u .full in
+    put k k e (g k) u h refl w (v ∙ ap g (sized l at k k refl (omega arith)))
+
+-- all are written
+pub all : {l p : List ℕ} {n : ℕ} → Upto l n n p → l ≡ p
+all {l} {p} {n} u = sym (take-all n l (rw (u .full) (omega arith))) ∙ u .done
+
+-- ONE FIELD AFTER THE OTHER: READING
+
+-- of the first so many bytes it is known what they are; and of the next one
+pub byte : {b p : List ℕ} {n at : ℕ} (v : ℕ) → Upto b n at p → at < n → byteAt b at ≡ v → Upto b n (suc at) (p ++ (v ∷ []))
+byte {b} {p} {n} {at} v u h e = record { full = u .full; done = rw (take-suc b at 0 (rw (u .full) h), u .done, e) }
+
+-- and of the next part
+pub field : {b p : List ℕ} {n at : ℕ} (k : ℕ) (x : List ℕ) → Upto b n at p → part b at k ≡ x → Upto b n (at + k) (p ++ x)
+field {b} {p} {n} {at} k x u e = record { full = u .full; done = rw (take-add, u .done, e) }
+
+-- a part of bytes is bytes
+pub part-bytes : (b : List ℕ) (at k : ℕ) → Bytes b → Bytes (part b at k)
+part-bytes b at k h = bytes-take k (drop at b) (bytes-drop at b h)
+
+-- a part of bytes is the bytes of its number
+pub number-part : (b : List ℕ) (at k : ℕ) → Bytes b → at + k ≤ length b → part b at k ≡ bytesOf k (numberOf (part b at k))
+number-part b at k y h =
+    sym (bytes-of-number (part b at k) (part-bytes b at k y)) ∙ ap (λ (m : ℕ). bytesOf m (numberOf (part b at k))) (sized b at k k refl h)
+
+-- reserved bytes that pass are zeros
+pub zero-part : (b : List ℕ) (at k : ℕ) → allZero (part b at k) ≡ true → at + k ≤ length b → part b at k ≡ replicate k 0
+zero-part b at k e h = sym (zeros (part b at k) e) ∙ ap (λ (m : ℕ). replicate m 0) (sized b at k k refl h)
+
+-- N PARTS OF K BYTES EACH: THE LOOPS
+
+-- the next part from one part on
+drop-turn : (k i : ℕ) (b : List ℕ) → drop (k * i) (drop k b) ≡ drop (k * suc i) b
+drop-turn k i b = rw (drop-drop, mul-suc, add-comm (k * i) k)
+
+-- the bytes of one entry more
+pub encodeEach-more : {A : Type 0} (f : A → List ℕ) (l : List A) (i : ℕ) (d : A) → i < length l → encodeEach f (take (suc i) l) ≡ encodeEach f (take i l) ++ f (getD l i d)
+unfolding encodeEach
+encodeEach-more f [] i d h = absurd (not-suc-le-zero h)
+encodeEach-more f (x ∷ l) zero d h = append-nil (f x)
+encodeEach-more f (x ∷ l) (suc i) d h = rw (encodeEach-more f l i d (le-of-suc-le-suc h), ← append-assoc)
+
+-- one entry more
+pub partsAt-more : {A : Type 0} (k i : ℕ) (f : List ℕ → A) (b : List ℕ) → partsAt k (suc i) f b ≡ partsAt k i f b ++ (f (part b (k * i) k) ∷ [])
+unfolding partsAt
+partsAt-more k zero f b = rw mul-zero
+partsAt-more k (suc i) f b =
+    ap (λ l. f (take k b) ∷ l) (partsAt-more k i f (drop k b)) ∙ rw (drop-turn k i b)
+
+-- one test more
+pub partsPass-more : (k n i : ℕ) (p : List ℕ → Bool) (b : List ℕ) → i < n
+    → partsPass k (n - i) p (drop (k * i) b) ≡ p (part b (k * i) k) && partsPass k (n - (i + 1)) p (drop (k * (i + 1)) b)
+unfolding partsPass
+partsPass-more k n i p b h =
+    let q : n - i ≡ suc (n - (i + 1)) = omega arith in
+    rw (q, drop-drop, add-one i, mul-suc)
+
+-- what passes whole passes at each part
+pub partsPass-at : (k n i : ℕ) (p : List ℕ → Bool) (b : List ℕ) → partsPass k n p b ≡ true → i < n → p (part b (k * i) k) ≡ true
+unfolding partsPass
+partsPass-at k zero i p b e h = absurd (not-suc-le-zero h)
+partsPass-at k (suc n) zero p b e h = rw mul-zero (and-true (p (take k b)) _ e .0)
+partsPass-at k (suc n) (suc i) p b e h =
+    let r = partsPass-at k n i p (drop k b) (and-true (p (take k b)) _ e .1) (le-of-suc-le-suc h) in
+    rw (drop-turn k i b) at r
+
+-- the entry of a part
+pub partsAt-at : {A : Type 0} (k n i : ℕ) (f : List ℕ → A) (b : List ℕ) (d : A) → i < n → getD (partsAt k n f b) i d ≡ f (part b (k * i) k)
+unfolding partsAt
+partsAt-at k zero i f b d h = absurd (not-suc-le-zero h)
+partsAt-at k (suc n) zero f b d h = rw mul-zero
+partsAt-at k (suc n) (suc i) f b d h = partsAt-at k n i f (drop k b) d (le-of-suc-le-suc h) ∙ rw (drop-turn k i b)
+
+-- a test that everything passes
+pub partsPass-all : (k n : ℕ) (b : List ℕ) → partsPass k n (λ c. true) b ≡ true
+unfolding partsPass
+partsPass-all k zero b = refl
+partsPass-all k (suc n) b = partsPass-all k n (drop k b)
+
+-- as many entries as parts
+pub partsAt-length : {A : Type 0} (k n : ℕ) (f : List ℕ → A) (b : List ℕ) → length (partsAt k n f b) ≡ n
+unfolding partsAt
+partsAt-length k zero f b = refl
+partsAt-length k (suc n) f b = ap suc (partsAt-length k n f (drop k b))
+
+-- the loop that tests: one test more
+pub pass-more : (k n i : ℕ) (p : List ℕ → Bool) (b : List ℕ) (t all : Bool) → partsPass k (n - i) p (drop (k * i) b) ≡ all → i < n
+    → t ≡ p (take (k * i + k - k * i) (drop (k * i) b)) → t && partsPass k (n - (i + 1)) p (drop (k * (i + 1)) b) ≡ all
+pass-more k n i p b t all e h w = rw (w, turn k i) (sym (partsPass-more k n i p b h) ∙ e)
+
+-- the part of a turn passes
+pub pass-turn : (k n i : ℕ) (p : List ℕ → Bool) (b : List ℕ) → partsPass k n p b ≡ true → i < n → p (take (k * i + k - k * i) (drop (k * i) b)) ≡ true
+pass-turn k n i p b e h = rw (turn k i) (partsPass-at k n i p b e h)
+
+-- all passed
+pub pass-done : (k n i : ℕ) (p : List ℕ → Bool) (b : List ℕ) (all : Bool) → partsPass k (n - i) p (drop (k * i) b) ≡ all → n ≤ i → true ≡ all
+unfolding partsPass
+pass-done k n i p b all e h = let q : n - i ≡ 0 = omega arith in rw q at e
+
+-- the loop that reads: one entry more of the array is filled
+pub read-more : {A : Type 0} (f : List ℕ → A) (b : List ℕ) (a : List A) (k i n : ℕ) (v : A) → take i a ≡ partsAt k i f b → length a ≡ n → i < n
+    → v ≡ f (take (k * i + k - k * i) (drop (k * i) b)) → take (i + 1) (set a i v) ≡ partsAt k (i + 1) f b
+read-more f b a k i n v e h j w = rw (add-one, take-suc-set a i v (rw h j), e, partsAt-more k i f b, w, turn k i)
+
+-- all are filled
+pub read-done : {A : Type 0} (f : List ℕ → A) (b : List ℕ) (a : List A) (k i n : ℕ) → take i a ≡ partsAt k i f b → length a ≡ n → i ≡ n → a ≡ partsAt k n f b
+read-done f b a k i n e h j = sym (take-all i a (omega arith)) ∙ e ∙ rw j
+
+-- the loop that writes: the first i entries are written
+abbrev pub Each : {A : Type 0} → (A → List ℕ) → List A → ℕ → ℕ → ℕ → List ℕ → Type 0
+Each f xs k n i l = (i ≤ n) × Upto l (k * n) (k * i) (encodeEach f (take i xs))
+
+-- none is written
+pub write-none : {A : Type 0} (f : A → List ℕ) (xs : List A) (k n : ℕ) (l : List ℕ) → length l ≡ k * n → Each f xs k n 0 l
+unfolding encodeEach
+write-none f xs k n l h = (omega arith, rw mul-zero (none-yet l (k * n) h))
+
+-- one entry more is written
+pub write-more : {A : Type 0} (f : A → List ℕ) (xs : List A) (k n i : ℕ) (d : A) (l e : List ℕ) → Each f xs k n i l → length xs ≡ n → i < n
+    → length e ≡ length (take (k * i + k - k * i) (drop (k * i) l)) → e ≡ f (getD xs i d) → Each f xs k n (i + 1) (putMid (k * i) (k * i + k - k * i) l e)
+write-more f xs k n i d l e u h j w v = (
+  omega arith,
+  rw (add-one, mul-suc, encodeEach-more f xs i d (omega arith)) (put k _ e (f (getD xs i d)) (u .1) (turn-fits k j) (turn k i) w v),
+)
+
+-- all are written
+pub write-done : {A : Type 0} (f : A → List ℕ) (xs : List A) (k n i : ℕ) (l : List ℕ) → Each f xs k n i l → length xs ≡ n → n ≤ i → l ≡ encodeEach f xs
+write-done f xs k n i l u h j =
+    let q : i ≡ n = omega arith in
+    let v : Upto l (k * n) (k * n) (encodeEach f (take n xs)) = rw q at (u .1) in
+    all v ∙ rw (take-all n xs (omega arith))
+
+-- N PARTS OF K BYTES EACH: THERE AND BACK
+
+-- a value comes back from its k bytes, which pass
+pub record Round {A : Type 0} (e : A → List ℕ) (f : List ℕ → A) (p : List ℕ → Bool) (k : ℕ) (x : A) : Type 0 where
+  pub size : length (e x) ≡ k
+  pub back : f (e x) ≡ x
+  pub passes : p (e x) ≡ true
+
+-- k bytes that pass come back from their value
+pub record Back {A : Type 0} (e : A → List ℕ) (f : List ℕ → A) (p : List ℕ → Bool) (k : ℕ) : Type 0 where
+  pub same : (b : List ℕ) → length b ≡ k → Bytes b → p b ≡ true → e (f b) ≡ b
+
+-- a list comes back from the bytes of its entries
+pub each-round : {A : Type 0} {e : A → List ℕ} {f : List ℕ → A} {p : List ℕ → Bool} {k : ℕ} (d : A) (l : List A)
+    → ((i : ℕ) → i < length l → Round e f p k (getD l i d))
+    → Round (encodeEach e) (partsAt k (length l) f) (partsPass k (length l) p) (length l * k) l
+unfolding encodeEach partsAt partsPass
+each-round {k = k} d [] h = record { size = sym (zero-mul k); back = refl; passes = refl }
+each-round {e = e} {f = f} {p = p} {k = k} d (x ∷ l) h =
+    let r = h 0 (omega arith) in
+    let s = each-round {e = e} {f = f} {p = p} {k = k} d l (λ i j. h (suc i) (omega arith)) in
+    let t : take k (e x ++ encodeEach e l) ≡ e x = take-at (e x) (encodeEach e l) k (r .size) in
+    let u : drop k (e x ++ encodeEach e l) ≡ encodeEach e l = drop-at (e x) (encodeEach e l) k (r .size) in
+    record {
+      size = rw (length-append, suc-mul, r .size, s .size, add-comm (length l * k) k);
+      back = rw (t, u, r .back, s .back);
+      passes = rw (t, u, r .passes, s .passes);
+    }
+
+-- bytes come back from the entries of their parts
+pub each-back : {A : Type 0} {e : A → List ℕ} {f : List ℕ → A} {p : List ℕ → Bool} {k : ℕ} (n : ℕ) → Back e f p k
+    → Back (encodeEach e) (partsAt k n f) (partsPass k n p) (n * k)
+unfolding encodeEach partsAt partsPass
+each-back {e = e} {f = f} {p = p} {k = k} zero h = record { same = λ b l y t. none b (l ∙ zero-mul k) }
+  where
+    none : (b : List ℕ) → length b ≡ 0 → [] ≡ b
+    none [] l = refl
+    none (x ∷ b) l = absurd (omega arith)
+each-back {e = e} {f = f} {p = p} {k = k} (suc n) h =
+    record {
+      same =
+          λ b l y t.
+          let q = and-true (p (take k b)) _ t in
+          let l′ : length b ≡ n * k + k = l ∙ suc-mul n k in
+          let one : e (f (take k b)) ≡ take k b = h .same (take k b) (length-take-le k b (omega arith)) (bytes-take k b y) (q .0) in
+          let rest : encodeEach e (partsAt k n f (drop k b)) ≡ drop k b =
+          each-back {e = e} {f = f} {p = p} {k = k} n h .same (drop k b) (rw length-drop (omega arith)) (bytes-drop k b y) (q .1)
+          in
+          rw (one, rest) (take-append-drop k b);
+    }

@@ -1,0 +1,27 @@
+-- Each number gives its registration.
+use Prim.Native.Nat.{ℕ, zero, suc}
+use mathlib.Core.Path.{_≡_, refl}
+use Rattle.rules.specs.declared.state.Registration.the-variants.{Free}
+use Rattle.encoding.specs.Decode.{registrationOf}
+use borrow.Author.Needs.{needs}
+use Rattle.encoding.proofs.holds.registration_of.Statement.{statement}
+use Rattle.encoding.proofs.holds.registration_of.Tie as tie
+
+-- Neither 1 nor 2: free.
+rest : (n : ℕ) → (n ≡ 1 → ⊥) → (n ≡ 2 → ⊥) → Free ≡ registrationOf n
+rest zero h1 h2 = refl
+rest (suc zero) h1 h2 = absurd (h1 refl)
+rest (suc (suc zero)) h1 h2 = absurd (h2 refl)
+rest (suc (suc (suc n))) h1 h2 = refl
+
+returns : tie.Need-returns
+returns c = search needs
+
+returns-2 : tie.Need-returns-2
+returns-2 c = search needs
+
+returns-3 : tie.Need-returns-3
+returns-3 c = rest _ (c .match .rest .0 .1) (c .match .rest .1)
+
+pub registration-of-spec : {M : Type 1} → statement M
+registration-of-spec = tie.close (tie.spec returns returns-2 returns-3)
