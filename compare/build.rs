@@ -1,0 +1,7 @@
+// Links the archive that `rt staticlib host` writes.
+fn main() {
+    let root = std::env::var("CARGO_MANIFEST_DIR").unwrap();
+    println!("cargo:rustc-link-search=native={root}/../target/staticlib");
+    println!("cargo:rustc-link-lib=static=host");
+    println!("cargo:rerun-if-changed={root}/../target/staticlib/libhost.a");
+}

@@ -1,0 +1,107 @@
+-- What the calls over lent bytes answer, and the bytes that they leave.
+use Prim.Native.Nat.{ℕ}
+use mathlib.Core.List.{List}
+use mathlib.Core.Bool.{Bool, true, false, cond, _&&_}
+use lib.ListN.{length}
+use lib.Dec.{eqb}
+use Rattle.program.specs.Table.{numberOf}
+use Rattle.rules.specs.declared.state.State.{State}
+use Rattle.rules.specs.declared.answer.Stepped.{Stepped}
+use Rattle.rules.specs.declared.answer.Ready.{Ready}
+use Rattle.rules.specs.declared.answer.Completion.{Completion}
+use Rattle.rules.specs.declared.answer.Completion.the-variants.{Done, Refused, Short}
+use Rattle.rules.specs.declared.answer.Ran.{Ran}
+use Rattle.rules.specs.State.{answerNumber}
+use Rattle.rules.specs.Steps.{base, start, step, ready, registrations, registrationsNumber}
+use Rattle.rules.specs.Runs.{isAccepted}
+use Rattle.machine.specs.Ran.{ranOf, answered}
+use Rattle.encoding.specs.Bytes.{encodeEach}
+use Rattle.encoding.specs.Encode.{encodeState}
+use Rattle.encoding.specs.Decode.{encodes, stateOf}
+
+-- whether a buffer has room for a state
+unfoldable pub fitsState : List ℕ → Bool
+fitsState b = eqb (length b) 13776
+
+-- The table's number 1 to 12 comes first, then 13: what a call answers whose buffers do not serve.
+unfoldable pub unfitNumber : List ℕ → ℕ
+unfitNumber t = cond (eqb (numberOf 65535 t) 0) 13 (numberOf 65535 t)
+
+-- START
+
+unfoldable pub startNumber : List ℕ → List ℕ → ℕ
+startNumber t b = cond (fitsState b) (answerNumber (start base t .answer)) (unfitNumber t)
+
+-- A refused start too leaves a state, that of zeros.
+unfoldable pub startBytes : List ℕ → List ℕ → List ℕ
+startBytes t b = cond (fitsState b) (encodeState (start base t .state)) b
+
+-- STEP
+
+unfoldable pub stepNumber : List ℕ → List ℕ → ℕ → ℕ
+stepNumber t b i = cond (encodes b) (answerNumber (step base t (stateOf b) i .answer)) (unfitNumber t)
+
+-- The state after an accepted step; a refused one leaves the bytes.
+unfoldable pub bytesAfter : Stepped → List ℕ → List ℕ
+bytesAfter done b = cond (isAccepted (done .answer)) (encodeState (done .state)) b
+
+unfoldable pub stepBytes : List ℕ → List ℕ → ℕ → List ℕ
+stepBytes t b i = cond (encodes b) (bytesAfter (step base t (stateOf b) i) b) b
+
+-- READY
+
+unfoldable pub readyNumber : List ℕ → List ℕ → ℕ
+readyNumber t b = cond (encodes b) (ready base t (stateOf b) .number) (unfitNumber t)
+
+-- The set that was found; a refused call leaves what was there.
+unfoldable pub setAfter : Ready → ℕ → ℕ
+setAfter found before = cond (eqb (found .number) 0) (found .set) before
+
+unfoldable pub readySet : List ℕ → List ℕ → ℕ → ℕ
+readySet t b before = cond (encodes b) (setAfter (ready base t (stateOf b)) before) before
+
+-- REGISTRATIONS
+
+-- The sheet stands row by row.
+abbrev pub rowBytes : List ℕ → List ℕ
+rowBytes row = row
+
+-- whether the buffers serve: bytes that encode a state, and room for a sheet
+unfoldable pub fitsSheet : List ℕ → List ℕ → Bool
+fitsSheet b sheet = eqb (length sheet) 1024 && encodes b
+
+unfoldable pub sheetNumber : List ℕ → List ℕ → List ℕ → ℕ
+sheetNumber t b sheet = cond (fitsSheet b sheet) (registrationsNumber base t (stateOf b)) (unfitNumber t)
+
+-- The sheet of a state; a refused call leaves what was there.
+unfoldable pub sheetAfter : List ℕ → State → List ℕ → List ℕ
+sheetAfter t s sheet = cond (eqb (registrationsNumber base t s) 0) (encodeEach rowBytes (registrations base t s)) sheet
+
+unfoldable pub sheetBytes : List ℕ → List ℕ → List ℕ → List ℕ
+sheetBytes t b sheet = cond (fitsSheet b sheet) (sheetAfter t (stateOf b) sheet) sheet
+
+-- RUN
+
+-- 13 where the answers have too little room
+abbrev pub completionNumber : Completion → ℕ
+completionNumber Done = 0
+completionNumber (Refused n) = n
+completionNumber Short = 13
+
+abbrev pub isDone : Completion → Bool
+isDone Done = true
+isDone (Refused n) = false
+isDone Short = false
+
+unfoldable pub runNumber : List ℕ → List ℕ → ℕ → List ℕ → ℕ
+runNumber t order room b = cond (fitsState b) (completionNumber (ranOf t order room .completion)) (unfitNumber t)
+
+unfoldable pub runAnswers : List ℕ → List ℕ → List ℕ → List ℕ → List ℕ
+runAnswers t order buffer b = cond (fitsState b) (answered t order buffer) buffer
+
+-- The state after a run that is done; a refused one leaves the bytes.
+unfoldable pub bytesRan : Ran → List ℕ → List ℕ
+bytesRan ran b = cond (isDone (ran .completion)) (encodeState (ran .state)) b
+
+unfoldable pub runBytes : List ℕ → List ℕ → ℕ → List ℕ → List ℕ
+runBytes t order room b = cond (fitsState b) (bytesRan (ranOf t order room) b) b
