@@ -1,0 +1,11 @@
+// The lines that the walk prints, put into a buffer.
+mod put; // put.rt: a byte, bytes and a number
+mod line; // line.rt: the header, a line, the total and the line of a table turned down
+
+pub use line::put_header;
+pub use line::put_line;
+pub use line::put_refused;
+pub use line::put_total;
+pub use put::put_byte;
+pub use put::put_bytes;
+pub use put::put_number;

@@ -1,0 +1,43 @@
+// Walks through a job: reads the files JOB and ORDER, and prints a line for each byte of the order and a total.
+mod files; // files.rt: a file read whole
+mod counts; // counts.rt: the steps taken and the activities ended
+mod print; // print.rt: the lines, written when the buffer is nearly full
+
+use counts::ended;
+use print::flush;
+use print::print_lines;
+use program::table::read_table;
+
+// Prints the number for which the table is turned down, or the walk.
+fn walk(job: &[u8], order: &[u8], out: &mut [u8], answers: &mut [u8]) {
+    let found = read_table(job);
+    let number = found.number;
+    if number != 0 {
+        let end = lines::put_refused(out, 0, number as u64);
+        flush(out, end);
+        return;
+    }
+    let ran = machine::run(job, order, answers);
+    let state = ran.state;
+    let at = print_lines(out, order, answers);
+    let end = lines::put_total(
+        out,
+        at,
+        found.work,
+        state.steps as u64,
+        ended(state),
+        state.activities as u64,
+    );
+    flush(out, end);
+}
+
+// A table has at most 2,048 bytes, so one byte more is read. Of the order, 65,535 bytes count.
+fn main() {
+    let mut job = [0u8; 2049];
+    let mut order = [0u8; 65535];
+    let mut out = io::large_buffer();
+    let mut answers = io::large_buffer();
+    let table = files::read_file(b"JOB", &mut job);
+    let steps = files::read_file(b"ORDER", &mut order);
+    walk(&job[..table], &order[..steps], &mut out, &mut answers);
+}
