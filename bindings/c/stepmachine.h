@@ -1,0 +1,44 @@
+/* The step machine's calls over lent bytes. The state's layout is in docs/STATE-BYTES.md.
+   Link target/staticlib/libhost.a, which `rt staticlib host` writes, for x86-64.
+
+   Each call answers the paper's number: 0, 100 plus f for fault f, or 1 to 17. The table's number 1 to 12 comes first;
+   a buffer of another length, or bytes that encode no state, give 13. A refused call leaves every lent byte as it was; only a
+   refused start writes: the state of zeros, into a buffer of the right length.
+
+   Every pointer is valid for its length and not null. A buffer that a call writes overlaps no other buffer of the call. */
+#ifndef STEPMACHINE_H
+#define STEPMACHINE_H
+
+#include <stddef.h>
+#include <stdint.h>
+
+#define STEPMACHINE_STATE_BYTES 13776
+#define STEPMACHINE_SHEET_BYTES 1024
+
+#ifdef __cplusplus
+extern "C" {
+#endif
+
+/* The start state of a table. */
+uint8_t stepmachine_start(const uint8_t *table, size_t table_bytes, uint8_t *state, size_t state_bytes);
+
+/* A step of an activity that the host picks. */
+uint8_t stepmachine_step(const uint8_t *table, size_t table_bytes, uint8_t *state, size_t state_bytes, size_t activity);
+
+/* Who can step: bit i for activity i. */
+uint8_t stepmachine_ready(const uint8_t *table, size_t table_bytes, const uint8_t *state, size_t state_bytes, uint64_t *set);
+
+/* The standing sheet: 64 rows of 16 bytes, by activity and clock number. */
+uint8_t stepmachine_registrations(const uint8_t *table, size_t table_bytes, const uint8_t *state, size_t state_bytes, uint8_t *sheet,
+                                  size_t sheet_bytes);
+
+/* A run from the start state, a step for each byte of the order: each step's answer, and the state after the last. Too little room for the
+   answers gives 13. */
+uint8_t stepmachine_run(const uint8_t *table, size_t table_bytes, const uint8_t *order, size_t order_bytes, uint8_t *answers,
+                        size_t answers_bytes, uint8_t *state, size_t state_bytes);
+
+#ifdef __cplusplus
+}
+#endif
+
+#endif

@@ -1,0 +1,62 @@
+//! The step machine's calls over lent bytes. The state's layout is in docs/STATE-BYTES.md.
+//!
+//! Each call answers the paper's number: 0, 100 plus f for fault f, or 1 to 17. A refused call leaves every lent byte as it
+//! was; only a refused start writes, the state of zeros.
+
+/// A state as bytes.
+pub type State = [u8; 13776];
+
+/// The standing sheet: 64 rows of 16 bytes, by activity and clock number.
+pub type Sheet = [u8; 1024];
+
+mod calls {
+    extern "C" {
+        pub fn stepmachine_start(table: *const u8, table_bytes: usize, state: *mut u8, state_bytes: usize) -> u8;
+        pub fn stepmachine_step(table: *const u8, table_bytes: usize, state: *mut u8, state_bytes: usize, activity: usize) -> u8;
+        pub fn stepmachine_ready(table: *const u8, table_bytes: usize, state: *const u8, state_bytes: usize, set: *mut u64) -> u8;
+        pub fn stepmachine_registrations(
+            table: *const u8, table_bytes: usize, state: *const u8, state_bytes: usize, sheet: *mut u8, sheet_bytes: usize,
+        ) -> u8;
+        pub fn stepmachine_run(
+            table: *const u8, table_bytes: usize, order: *const u8, order_bytes: usize, answers: *mut u8, answers_bytes: usize,
+            state: *mut u8, state_bytes: usize,
+        ) -> u8;
+    }
+}
+
+/// The start state of a table.
+pub fn start(table: &[u8], state: &mut State) -> u8 {
+    // Sound: each pointer is valid for the length beside it, and what is written is borrowed alone. So below.
+    unsafe { calls::stepmachine_start(table.as_ptr(), table.len(), state.as_mut_ptr(), state.len()) }
+}
+
+/// A step of an activity that the host picks.
+pub fn step(table: &[u8], state: &mut State, activity: usize) -> u8 {
+    unsafe { calls::stepmachine_step(table.as_ptr(), table.len(), state.as_mut_ptr(), state.len(), activity) }
+}
+
+/// Who can step, bit i for activity i; or the number for which the call is refused.
+pub fn ready(table: &[u8], state: &State) -> Result<u64, u8> {
+    let mut set = 0;
+    match unsafe { calls::stepmachine_ready(table.as_ptr(), table.len(), state.as_ptr(), state.len(), &mut set) } {
+        0 => Ok(set),
+        number => Err(number),
+    }
+}
+
+/// The standing sheet.
+pub fn registrations(table: &[u8], state: &State, sheet: &mut Sheet) -> u8 {
+    unsafe {
+        calls::stepmachine_registrations(table.as_ptr(), table.len(), state.as_ptr(), state.len(), sheet.as_mut_ptr(), sheet.len())
+    }
+}
+
+/// A run from the start state: each step's answer, and the state after the last. Too little room for the answers gives 13.
+pub fn run(table: &[u8], order: &[u8], answers: &mut [u8], state: &mut State) -> u8 {
+    unsafe {
+        calls::stepmachine_run(
+            table.as_ptr(), table.len(), order.as_ptr(), order.len(), answers.as_mut_ptr(), answers.len(), state.as_mut_ptr(),
+            state.len(),
+        )
+    }
+}
