@@ -4,7 +4,7 @@ use native.Mathlib.Omega.{arith}
 use native.Mathlib.Nat.{not-suc-le-zero, le-of-suc-le-suc, mul-suc, mul-zero, mul-le-mul-left, suc-mul, zero-mul, add-comm, add-sub-cancel-left}
 use native.Mathlib.Numerals.{add-one}
 use mathlib.Core.List.{List, [], _∷_, _++_, append-nil, append-assoc}
-use mathlib.Core.Bool.{Bool, true, _&&_}
+use mathlib.Core.Bool.{Bool, true, false, _&&_}
 use mathlib.Core.Path.{_≡_, refl, sym, ap, _∙_}
 use lib.ListN.{length, replicate, getD, take, drop, set, take-append-drop, length-append, length-drop, length-set}
 use lib.Seq.{take-at, drop-at, take-suc, take-suc-set, take-all, take-add, drop-drop, length-take-le, take-append-add}
@@ -95,7 +95,7 @@ number-part b at k y h =
 pub zero-part : (b : List ℕ) (at k : ℕ) → allZero (part b at k) ≡ true → at + k ≤ length b → part b at k ≡ replicate k 0
 zero-part b at k e h = sym (zeros (part b at k) e) ∙ ap (λ (m : ℕ). replicate m 0) (sized b at k k refl h)
 
--- N PARTS OF K BYTES EACH: THE LOOPS
+-- N PARTS OF K BYTES EACH
 
 -- the next part from one part on
 drop-turn : (k i : ℕ) (b : List ℕ) → drop (k * i) (drop k b) ≡ drop (k * suc i) b
@@ -151,30 +151,73 @@ unfolding partsAt
 partsAt-length k zero f b = refl
 partsAt-length k (suc n) f b = ap suc (partsAt-length k n f (drop k b))
 
--- the loop that tests: one test more
-pub pass-more : (k n i : ℕ) (p : List ℕ → Bool) (b : List ℕ) (t all : Bool) → partsPass k (n - i) p (drop (k * i) b) ≡ all → i < n
-    → t ≡ p (take (k * i + k - k * i) (drop (k * i) b)) → t && partsPass k (n - (i + 1)) p (drop (k * (i + 1)) b) ≡ all
-pass-more k n i p b t all e h w = rw (w, turn k i) (sym (partsPass-more k n i p b h) ∙ e)
+-- THE LOOP THAT TESTS
+
+-- the parts from i on decide
+pub record Passing (p : List ℕ → Bool) (b : List ℕ) (k n i : ℕ) : Type 0 where
+  pub within : i ≤ n
+  pub left : partsPass k (n - i) p (drop (k * i) b) ≡ partsPass k n p b
+
+-- all parts decide
+pub pass-none : (p : List ℕ → Bool) (b : List ℕ) (k n : ℕ) → Passing p b k n 0
+pass-none p b k n = let q : n - 0 ≡ n = omega arith in record { within = omega arith; left = rw (q, mul-zero) }
+
+-- the part of a turn and those after it
+pass-turned : {p : List ℕ → Bool} {b : List ℕ} {k n i : ℕ} {t : Bool} → Passing p b k n i → i < n → t ≡ p (take (k * i + k - k * i) (drop (k * i) b))
+    → t && partsPass k (n - (i + 1)) p (drop (k * (i + 1)) b) ≡ partsPass k n p b
+pass-turned {p} {b} {k} {n} {i} l h w = rw (w, turn k i) (sym (partsPass-more k n i p b h) ∙ l .left)
 
 -- the part of a turn passes
+pub pass-on : {p : List ℕ → Bool} {b : List ℕ} {k n i : ℕ} {t : Bool} → Passing p b k n i → i < n → t ≡ p (take (k * i + k - k * i) (drop (k * i) b)) → t ≡ true
+    → Passing p b k n (i + 1)
+pass-on l h w e = record { within = omega arith; left = rw e at (pass-turned l h w) }
+
+-- it does not pass
+pub pass-not : {p : List ℕ → Bool} {b : List ℕ} {k n i : ℕ} {t : Bool} → Passing p b k n i → i < n → t ≡ p (take (k * i + k - k * i) (drop (k * i) b)) → t ≡ false
+    → false ≡ partsPass k n p b
+pass-not l h w e = rw e at (pass-turned l h w)
+
+-- all passed
+pub pass-done : {p : List ℕ → Bool} {b : List ℕ} {k n i : ℕ} → Passing p b k n i → n ≤ i → true ≡ partsPass k n p b
+unfolding partsPass
+pass-done {n = n} {i = i} l h = let q : n - i ≡ 0 = omega arith in rw q at (l .left)
+
+-- where all passed, the part of a turn does
 pub pass-turn : (k n i : ℕ) (p : List ℕ → Bool) (b : List ℕ) → partsPass k n p b ≡ true → i < n → p (take (k * i + k - k * i) (drop (k * i) b)) ≡ true
 pass-turn k n i p b e h = rw (turn k i) (partsPass-at k n i p b e h)
 
--- all passed
-pub pass-done : (k n i : ℕ) (p : List ℕ → Bool) (b : List ℕ) (all : Bool) → partsPass k (n - i) p (drop (k * i) b) ≡ all → n ≤ i → true ≡ all
-unfolding partsPass
-pass-done k n i p b all e h = let q : n - i ≡ 0 = omega arith in rw q at e
+-- THE LOOP THAT READS
 
--- the loop that reads: one entry more of the array is filled
-pub read-more : {A : Type 0} (f : List ℕ → A) (b : List ℕ) (a : List A) (k i n : ℕ) (v : A) → take i a ≡ partsAt k i f b → length a ≡ n → i < n
-    → v ≡ f (take (k * i + k - k * i) (drop (k * i) b)) → take (i + 1) (set a i v) ≡ partsAt k (i + 1) f b
-read-more f b a k i n v e h j w = rw (add-one, take-suc-set a i v (rw h j), e, partsAt-more k i f b, w, turn k i)
+-- the first i entries are read
+pub record Reads {A : Type 0} (f : List ℕ → A) (b : List ℕ) (k n i : ℕ) (a : List A) : Type 0 where
+  pub within : i ≤ n
+  pub size : length a ≡ n
+  pub done : take i a ≡ partsAt k i f b
 
--- all are filled
-pub read-done : {A : Type 0} (f : List ℕ → A) (b : List ℕ) (a : List A) (k i n : ℕ) → take i a ≡ partsAt k i f b → length a ≡ n → i ≡ n → a ≡ partsAt k n f b
-read-done f b a k i n e h j = sym (take-all i a (omega arith)) ∙ e ∙ rw j
+-- none is read
+pub read-none : {A : Type 0} (f : List ℕ → A) (b : List ℕ) (k n : ℕ) (a : List A) → length a ≡ n → Reads f b k n 0 a
+unfolding partsAt
+read-none f b k n a h = record { within = omega arith; size = h; done = refl }
 
--- the loop that writes: the first i entries are written
+-- one entry more is read
+pub read-more : {A : Type 0} {f : List ℕ → A} {b : List ℕ} {a : List A} {k n i : ℕ} (v : A) → Reads f b k n i a → i < n → v ≡ f (take (k * i + k - k * i) (drop (k * i) b))
+    → Reads f b k n (i + 1) (set a i v)
+read-more {f = f} {b = b} {a = a} {k = k} {i = i} v l j w =
+    record {
+      within = omega arith;
+      size = simp length-set (l .size);
+      done = rw (add-one, take-suc-set a i v (rw (l .size) j), l .done, partsAt-more k i f b, w, turn k i);
+    }
+
+-- all are read
+pub read-done : {A : Type 0} {f : List ℕ → A} {b : List ℕ} {a : List A} {k n i : ℕ} → Reads f b k n i a → n ≤ i → a ≡ partsAt k n f b
+read-done {a = a} {n = n} {i = i} l h =
+    let j : i ≡ n = omega (arith, l .within) in
+    sym (take-all i a (omega (arith, l .size))) ∙ l .done ∙ rw j
+
+-- THE LOOP THAT WRITES
+
+-- the first i entries are written
 abbrev pub Each : {A : Type 0} → (A → List ℕ) → List A → ℕ → ℕ → ℕ → List ℕ → Type 0
 Each f xs k n i l = (i ≤ n) × Upto l (k * n) (k * i) (encodeEach f (take i xs))
 

@@ -6,21 +6,12 @@ use borrow.Author.Needs.{needs}
 use Rattle.encoding.proofs.decode.Statement.{statement}
 use Rattle.encoding.proofs.decode.Tie as tie
 
-zero-state-requires : tie.Need-zero-state-requires
-zero-state-requires c κs = search needs
-
 returns : tie.Need-returns
 unfolding decodedOf encodes
 returns c = rw (ne-eqb _ 13776 (c .before .if1 .taken), c .zero-state .ensures)
 
-fields-encode-requires : tie.Need-fields-encode-requires
-fields-encode-requires c κs = search needs
-
 state-at-requires : tie.Need-state-at-requires
 state-at-requires c κs = (c .before .before .if1 .left, sym (c .before .fields-encode .ensures) ∙ c .if2 .taken)
-
-zero-state-requires-2 : tie.Need-zero-state-requires-2
-zero-state-requires-2 c κs = search needs
 
 returns-2 : tie.Need-returns-2
 unfolding decodedOf encodes
@@ -33,11 +24,5 @@ returns-3 c = rw (eq-eqb _ 13776 (c .before .before .before .if1 .left), sym (c 
 pub decode-spec : {M : Type 1} → statement M
 decode-spec =
     tie.close
-    (tie.spec
-    zero-state-requires
-    returns
-    fields-encode-requires
-    state-at-requires
-    zero-state-requires-2
-    returns-2
-    returns-3)
+    (tie.spec (λ zero-state-requires κs. search needs) returns (λ fields-encode-requires κs. search needs) state-at-requires
+    (λ zero-state-requires-2 κs. search needs) returns-2 returns-3)

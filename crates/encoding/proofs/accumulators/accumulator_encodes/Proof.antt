@@ -5,24 +5,9 @@ use borrow.Author.Needs.{needs}
 use Rattle.encoding.proofs.accumulators.accumulator_encodes.Statement.{statement}
 use Rattle.encoding.proofs.accumulators.accumulator_encodes.Tie as tie
 
-shared-slice-read-operator : tie.Need-shared-slice-read-operator
-shared-slice-read-operator c = search needs
-
 returns : tie.Need-returns
 unfolding accumulatorEncodes
 returns c = rw (lt-leb _ 2 (c .if1 .taken))
-
-sub-are-zero : tie.Need-sub-are-zero
-sub-are-zero c = search needs
-
-part-are-zero-start : tie.Need-part-are-zero-start
-part-are-zero-start c = search needs
-
-part-are-zero-end : tie.Need-part-are-zero-end
-part-are-zero-end c = search needs
-
-are-zero-requires : tie.Need-are-zero-requires
-are-zero-requires c κs = search needs
 
 returns-2 : tie.Need-returns-2
 unfolding accumulatorEncodes
@@ -31,11 +16,5 @@ returns-2 c = rw (le-leb _ 2 (c .before .before .if1 .left)) (c .are-zero .ensur
 pub accumulator-encodes-spec : {M : Type 1} → statement M
 accumulator-encodes-spec =
     tie.close
-    (tie.spec
-    shared-slice-read-operator
-    returns
-    sub-are-zero
-    part-are-zero-start
-    part-are-zero-end
-    are-zero-requires
-    returns-2)
+    (tie.spec (λ shared-slice-read-operator. search needs) returns (λ sub-are-zero. search needs) (λ part-are-zero-start. search needs)
+    (λ part-are-zero-end. search needs) (λ are-zero-requires κs. search needs) returns-2)

@@ -17,35 +17,8 @@ abbrev μ-loop : tie.MeasureT-loop
 loop-holds : tie.Need-loop-holds Inv-loop μ-loop
 loop-holds c = write-none encodeAccumulator (c .before .args .t1) 24 16 _ (c .before .pre)
 
-mul-at : tie.Need-mul-at Inv-loop μ-loop
-mul-at c = omega arith
-
-mul-a : tie.Need-mul-a Inv-loop μ-loop
-mul-a c = omega arith
-
-array-copy-out-a : tie.Need-array-copy-out-a Inv-loop μ-loop
-array-copy-out-a c = omega arith
-
-add-put-accumulator : tie.Need-add-put-accumulator Inv-loop μ-loop
-add-put-accumulator c = omega arith
-
-sub-put-accumulator : tie.Need-sub-put-accumulator Inv-loop μ-loop
-sub-put-accumulator c = omega arith
-
-part-put-accumulator-start : tie.Need-part-put-accumulator-start Inv-loop μ-loop
-part-put-accumulator-start c = omega arith
-
-part-put-accumulator-end : tie.Need-part-put-accumulator-end Inv-loop μ-loop
-part-put-accumulator-end c = omega arith
-
 put-accumulator-requires : tie.Need-put-accumulator-requires Inv-loop μ-loop
 put-accumulator-requires c κs = turn-sized _ 24 (c .before .before .before .loop .i) 16 (c .before .before .before .loop .inv .1 .full) (c .before .before .loop-test .taken)
-
-add-i : tie.Need-add-i Inv-loop μ-loop
-add-i c = omega arith
-
-loop-less : tie.Need-loop-less Inv-loop μ-loop
-loop-less c = omega arith
 
 loop-again : tie.Need-loop-again Inv-loop μ-loop
 loop-again c =
@@ -62,20 +35,6 @@ returns c = write-done encodeAccumulator _ 24 16 (c .before .loop .i) _ (c .befo
 pub put-accumulators-spec : {M : Type 1} → statement M
 put-accumulators-spec =
     tie.close
-    (tie.spec
-    Inv-loop
-    μ-loop
-    loop-holds
-    mul-at
-    mul-a
-    array-copy-out-a
-    add-put-accumulator
-    sub-put-accumulator
-    part-put-accumulator-start
-    part-put-accumulator-end
-    put-accumulator-requires
-    add-i
-    loop-less
-    loop-again
-    same-length
-    returns)
+    (tie.spec Inv-loop μ-loop loop-holds (λ mul-at. omega arith) (λ mul-a. omega arith) (λ array-copy-out-a. omega arith) (λ add-put-accumulator. omega arith)
+    (λ sub-put-accumulator. omega arith) (λ part-put-accumulator-start. omega arith) (λ part-put-accumulator-end. omega arith) put-accumulator-requires
+    (λ add-i. omega arith) (λ loop-less. omega arith) loop-again same-length returns)

@@ -8,70 +8,10 @@ use borrow.Author.Needs.{needs}
 use Rattle.encoding.proofs.activities.activity_at.Statement.{statement}
 use Rattle.encoding.proofs.activities.activity_at.Tie as tie
 
-sub-number : tie.Need-sub-number
-sub-number c = search needs
-
-part-number-start : tie.Need-part-number-start
-part-number-start c = search needs
-
-part-number-end : tie.Need-part-number-end
-part-number-end c = search needs
-
-number-requires : tie.Need-number-requires
-number-requires c κs = search needs
-
-shared-slice-read-status-of : tie.Need-shared-slice-read-status-of
-shared-slice-read-status-of c = search needs
-
-shared-slice-read-status-of-2 : tie.Need-shared-slice-read-status-of-2
-shared-slice-read-status-of-2 c = search needs
-
-status-of-requires : tie.Need-status-of-requires
-status-of-requires c κs = search needs
-
-sub-bytes-at : tie.Need-sub-bytes-at
-sub-bytes-at c = search needs
-
-part-bytes-at-start : tie.Need-part-bytes-at-start
-part-bytes-at-start c = search needs
-
-part-bytes-at-end : tie.Need-part-bytes-at-end
-part-bytes-at-end c = search needs
-
-bytes-at-requires : tie.Need-bytes-at-requires
-bytes-at-requires c κs = search needs
-
-sub-holds-at : tie.Need-sub-holds-at
-sub-holds-at c = search needs
-
-part-holds-at-start : tie.Need-part-holds-at-start
-part-holds-at-start c = search needs
-
-part-holds-at-end : tie.Need-part-holds-at-end
-part-holds-at-end c = search needs
-
 holds-at-requires : tie.Need-holds-at-requires
 holds-at-requires c κs =
     let s = c .before .before .before .before .before .before .before .before .before in
     (sized (s .args .bytes .now) 16 64 64 refl (omega arith), activity-passes (s .args .bytes .now) (s .pre .1) .holds)
-
-sub-frames-at : tie.Need-sub-frames-at
-sub-frames-at c = search needs
-
-part-frames-at-start : tie.Need-part-frames-at-start
-part-frames-at-start c = search needs
-
-part-frames-at-end : tie.Need-part-frames-at-end
-part-frames-at-end c = search needs
-
-frames-at-requires : tie.Need-frames-at-requires
-frames-at-requires c κs = search needs
-
-shared-slice-read-t14 : tie.Need-shared-slice-read-t14
-shared-slice-read-t14 c = search needs
-
-shared-slice-read-t12 : tie.Need-shared-slice-read-t12
-shared-slice-read-t12 c = search needs
 
 returns : tie.Need-returns
 unfolding activityAt
@@ -86,26 +26,9 @@ returns c =
 pub activity-at-spec : {M : Type 1} → statement M
 activity-at-spec =
     tie.close
-    (tie.spec
-    sub-number
-    part-number-start
-    part-number-end
-    number-requires
-    shared-slice-read-status-of
-    shared-slice-read-status-of-2
-    status-of-requires
-    sub-bytes-at
-    part-bytes-at-start
-    part-bytes-at-end
-    bytes-at-requires
-    sub-holds-at
-    part-holds-at-start
-    part-holds-at-end
-    holds-at-requires
-    sub-frames-at
-    part-frames-at-start
-    part-frames-at-end
-    frames-at-requires
-    shared-slice-read-t14
-    shared-slice-read-t12
-    returns)
+    (tie.spec (λ sub-number. search needs) (λ part-number-start. search needs) (λ part-number-end. search needs) (λ number-requires κs. search needs)
+    (λ shared-slice-read-status-of. search needs) (λ shared-slice-read-status-of-2. search needs) (λ status-of-requires κs. search needs)
+    (λ sub-bytes-at. search needs) (λ part-bytes-at-start. search needs) (λ part-bytes-at-end. search needs) (λ bytes-at-requires κs. search needs)
+    (λ sub-holds-at. search needs) (λ part-holds-at-start. search needs) (λ part-holds-at-end. search needs) holds-at-requires (λ sub-frames-at. search needs)
+    (λ part-frames-at-start. search needs) (λ part-frames-at-end. search needs) (λ frames-at-requires κs. search needs) (λ shared-slice-read-t14. search needs)
+    (λ shared-slice-read-t12. search needs) returns)

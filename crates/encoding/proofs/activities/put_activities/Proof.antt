@@ -17,35 +17,8 @@ abbrev μ-loop : tie.MeasureT-loop
 loop-holds : tie.Need-loop-holds Inv-loop μ-loop
 loop-holds c = write-none encodeActivity (c .before .args .t1) 208 64 _ (c .before .pre)
 
-mul-at : tie.Need-mul-at Inv-loop μ-loop
-mul-at c = omega arith
-
-mul-a : tie.Need-mul-a Inv-loop μ-loop
-mul-a c = omega arith
-
-array-copy-out-a : tie.Need-array-copy-out-a Inv-loop μ-loop
-array-copy-out-a c = omega arith
-
-add-put-activity : tie.Need-add-put-activity Inv-loop μ-loop
-add-put-activity c = omega arith
-
-sub-put-activity : tie.Need-sub-put-activity Inv-loop μ-loop
-sub-put-activity c = omega arith
-
-part-put-activity-start : tie.Need-part-put-activity-start Inv-loop μ-loop
-part-put-activity-start c = omega arith
-
-part-put-activity-end : tie.Need-part-put-activity-end Inv-loop μ-loop
-part-put-activity-end c = omega arith
-
 put-activity-requires : tie.Need-put-activity-requires Inv-loop μ-loop
 put-activity-requires c κs = turn-sized _ 208 (c .before .before .before .loop .i) 64 (c .before .before .before .loop .inv .1 .full) (c .before .before .loop-test .taken)
-
-add-i : tie.Need-add-i Inv-loop μ-loop
-add-i c = omega arith
-
-loop-less : tie.Need-loop-less Inv-loop μ-loop
-loop-less c = omega arith
 
 loop-again : tie.Need-loop-again Inv-loop μ-loop
 loop-again c =
@@ -62,20 +35,6 @@ returns c = write-done encodeActivity _ 208 64 (c .before .loop .i) _ (c .before
 pub put-activities-spec : {M : Type 1} → statement M
 put-activities-spec =
     tie.close
-    (tie.spec
-    Inv-loop
-    μ-loop
-    loop-holds
-    mul-at
-    mul-a
-    array-copy-out-a
-    add-put-activity
-    sub-put-activity
-    part-put-activity-start
-    part-put-activity-end
-    put-activity-requires
-    add-i
-    loop-less
-    loop-again
-    same-length
-    returns)
+    (tie.spec Inv-loop μ-loop loop-holds (λ mul-at. omega arith) (λ mul-a. omega arith) (λ array-copy-out-a. omega arith) (λ add-put-activity. omega arith)
+    (λ sub-put-activity. omega arith) (λ part-put-activity-start. omega arith) (λ part-put-activity-end. omega arith) put-activity-requires
+    (λ add-i. omega arith) (λ loop-less. omega arith) loop-again same-length returns)

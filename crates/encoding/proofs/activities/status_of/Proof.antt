@@ -7,9 +7,6 @@ use borrow.Author.Needs.{needs}
 use Rattle.encoding.proofs.activities.status_of.Statement.{statement}
 use Rattle.encoding.proofs.activities.status_of.Tie as tie
 
-fault-of-requires : tie.Need-fault-of-requires
-fault-of-requires c κs = search needs
-
 -- None of 1, 2 and 3: running.
 rest : (n f : ℕ) → (n ≡ 1 → ⊥) → (n ≡ 2 → ⊥) → (n ≡ 3 → ⊥) → Running ≡ statusOf n f
 rest zero f h1 h2 h3 = refl
@@ -18,12 +15,6 @@ rest (suc (suc zero)) f h1 h2 h3 = absurd (h2 refl)
 rest (suc (suc (suc zero))) f h1 h2 h3 = absurd (h3 refl)
 rest (suc (suc (suc (suc n)))) f h1 h2 h3 = refl
 
-returns : tie.Need-returns
-returns c = search needs
-
-returns-2 : tie.Need-returns-2
-returns-2 c = search needs
-
 returns-3 : tie.Need-returns-3
 returns-3 c = rw (c .before .match .keys3, c .fault-of .ensures)
 
@@ -31,4 +22,5 @@ returns-4 : tie.Need-returns-4
 returns-4 c = rest _ (c .before .args .fault) (c .match .rest .0 .0 .1) (c .match .rest .0 .1) (c .match .rest .1)
 
 pub status-of-spec : {M : Type 1} → statement M
-status-of-spec = tie.close (tie.spec fault-of-requires returns returns-2 returns-3 returns-4)
+status-of-spec = tie.close
+    (tie.spec (λ fault-of-requires κs. search needs) (λ returns. search needs) (λ returns-2. search needs) returns-3 returns-4)

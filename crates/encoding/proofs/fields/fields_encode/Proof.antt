@@ -6,24 +6,9 @@ use borrow.Author.Needs.{needs}
 use Rattle.encoding.proofs.fields.fields_encode.Statement.{statement}
 use Rattle.encoding.proofs.fields.fields_encode.Tie as tie
 
-shared-slice-read-version : tie.Need-shared-slice-read-version
-shared-slice-read-version c = search needs
-
 returns : tie.Need-returns
 unfolding fieldsEncode
 returns c = rw (ne-eqb _ 1 (c .if1 .taken))
-
-sub-number : tie.Need-sub-number
-sub-number c = search needs
-
-part-number-start : tie.Need-part-number-start
-part-number-start c = search needs
-
-part-number-end : tie.Need-part-number-end
-part-number-end c = search needs
-
-number-requires : tie.Need-number-requires
-number-requires c κs = search needs
 
 returns-2 : tie.Need-returns-2
 unfolding fieldsEncode
@@ -32,18 +17,6 @@ returns-2 c =
       eq-eqb _ 1 (c .before .before .before .if1 .left),
       lt-leb _ 65535 (rw (c .before .number .ensures) at (c .if2 .taken)),
     )
-
-sub-are-zero : tie.Need-sub-are-zero
-sub-are-zero c = search needs
-
-part-are-zero-start : tie.Need-part-are-zero-start
-part-are-zero-start c = search needs
-
-part-are-zero-end : tie.Need-part-are-zero-end
-part-are-zero-end c = search needs
-
-are-zero-requires : tie.Need-are-zero-requires
-are-zero-requires c κs = search needs
 
 returns-3 : tie.Need-returns-3
 unfolding fieldsEncode
@@ -54,18 +27,6 @@ returns-3 c =
       sym (c .before .are-zero .ensures) ∙ not-true _ (c .if3 .taken),
     )
 
-sub-accumulators-encode : tie.Need-sub-accumulators-encode
-sub-accumulators-encode c = search needs
-
-part-accumulators-encode-start : tie.Need-part-accumulators-encode-start
-part-accumulators-encode-start c = search needs
-
-part-accumulators-encode-end : tie.Need-part-accumulators-encode-end
-part-accumulators-encode-end c = search needs
-
-accumulators-encode-requires : tie.Need-accumulators-encode-requires
-accumulators-encode-requires c κs = search needs
-
 returns-4 : tie.Need-returns-4
 unfolding fieldsEncode
 returns-4 c =
@@ -75,18 +36,6 @@ returns-4 c =
       sym (c .before .before .before .before .are-zero .ensures) ∙ not-false _ (c .before .before .before .if3 .left),
       sym (c .before .accumulators-encode .ensures) ∙ not-true _ (c .if4 .taken),
     )
-
-sub-activities-encode : tie.Need-sub-activities-encode
-sub-activities-encode c = search needs
-
-part-activities-encode-start : tie.Need-part-activities-encode-start
-part-activities-encode-start c = search needs
-
-part-activities-encode-end : tie.Need-part-activities-encode-end
-part-activities-encode-end c = search needs
-
-activities-encode-requires : tie.Need-activities-encode-requires
-activities-encode-requires c κs = search needs
 
 returns-5 : tie.Need-returns-5
 unfolding fieldsEncode
@@ -102,26 +51,9 @@ returns-5 c =
 pub fields-encode-spec : {M : Type 1} → statement M
 fields-encode-spec =
     tie.close
-    (tie.spec
-    shared-slice-read-version
-    returns
-    sub-number
-    part-number-start
-    part-number-end
-    number-requires
-    returns-2
-    sub-are-zero
-    part-are-zero-start
-    part-are-zero-end
-    are-zero-requires
-    returns-3
-    sub-accumulators-encode
-    part-accumulators-encode-start
-    part-accumulators-encode-end
-    accumulators-encode-requires
-    returns-4
-    sub-activities-encode
-    part-activities-encode-start
-    part-activities-encode-end
-    activities-encode-requires
-    returns-5)
+    (tie.spec (λ shared-slice-read-version. search needs) returns (λ sub-number. search needs) (λ part-number-start. search needs)
+    (λ part-number-end. search needs) (λ number-requires κs. search needs) returns-2 (λ sub-are-zero. search needs) (λ part-are-zero-start. search needs)
+    (λ part-are-zero-end. search needs) (λ are-zero-requires κs. search needs) returns-3 (λ sub-accumulators-encode. search needs)
+    (λ part-accumulators-encode-start. search needs) (λ part-accumulators-encode-end. search needs) (λ accumulators-encode-requires κs. search needs) returns-4
+    (λ sub-activities-encode. search needs) (λ part-activities-encode-start. search needs) (λ part-activities-encode-end. search needs)
+    (λ activities-encode-requires κs. search needs) returns-5)

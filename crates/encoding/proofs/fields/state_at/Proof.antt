@@ -8,69 +8,15 @@ use borrow.Author.Needs.{needs}
 use Rattle.encoding.proofs.fields.state_at.Statement.{statement}
 use Rattle.encoding.proofs.fields.state_at.Tie as tie
 
-sub-number : tie.Need-sub-number
-sub-number c = search needs
-
-part-number-start : tie.Need-part-number-start
-part-number-start c = search needs
-
-part-number-end : tie.Need-part-number-end
-part-number-end c = search needs
-
-number-requires : tie.Need-number-requires
-number-requires c κs = search needs
-
 cast-steps : tie.Need-cast-steps
 cast-steps c =
     let s = c .before .before .before in
     omega (arith, c .number .ensures, state-passes (s .args .bytes .now) (s .pre .1) .steps)
 
-sub-cells-at : tie.Need-sub-cells-at
-sub-cells-at c = search needs
-
-part-cells-at-start : tie.Need-part-cells-at-start
-part-cells-at-start c = search needs
-
-part-cells-at-end : tie.Need-part-cells-at-end
-part-cells-at-end c = search needs
-
-cells-at-requires : tie.Need-cells-at-requires
-cells-at-requires c κs = search needs
-
-sub-accumulators-at : tie.Need-sub-accumulators-at
-sub-accumulators-at c = search needs
-
-part-accumulators-at-start : tie.Need-part-accumulators-at-start
-part-accumulators-at-start c = search needs
-
-part-accumulators-at-end : tie.Need-part-accumulators-at-end
-part-accumulators-at-end c = search needs
-
-accumulators-at-requires : tie.Need-accumulators-at-requires
-accumulators-at-requires c κs = search needs
-
-sub-activities-at : tie.Need-sub-activities-at
-sub-activities-at c = search needs
-
-part-activities-at-start : tie.Need-part-activities-at-start
-part-activities-at-start c = search needs
-
-part-activities-at-end : tie.Need-part-activities-at-end
-part-activities-at-end c = search needs
-
 activities-at-requires : tie.Need-activities-at-requires
 activities-at-requires c κs =
     let s = c .before .before .before .before .before .before .before .before in
     (sized (s .args .bytes .now) 464 13312 13312 refl (omega arith), state-passes (s .args .bytes .now) (s .pre .1) .acts)
-
-shared-slice-read-t21 : tie.Need-shared-slice-read-t21
-shared-slice-read-t21 c = search needs
-
-shared-slice-read-t23 : tie.Need-shared-slice-read-t23
-shared-slice-read-t23 c = search needs
-
-shared-slice-read-t25 : tie.Need-shared-slice-read-t25
-shared-slice-read-t25 c = search needs
 
 returns : tie.Need-returns
 unfolding stateOf
@@ -84,25 +30,9 @@ returns c =
 pub state-at-spec : {M : Type 1} → statement M
 state-at-spec =
     tie.close
-    (tie.spec
-    sub-number
-    part-number-start
-    part-number-end
-    number-requires
-    cast-steps
-    sub-cells-at
-    part-cells-at-start
-    part-cells-at-end
-    cells-at-requires
-    sub-accumulators-at
-    part-accumulators-at-start
-    part-accumulators-at-end
-    accumulators-at-requires
-    sub-activities-at
-    part-activities-at-start
-    part-activities-at-end
-    activities-at-requires
-    shared-slice-read-t21
-    shared-slice-read-t23
-    shared-slice-read-t25
-    returns)
+    (tie.spec (λ sub-number. search needs) (λ part-number-start. search needs) (λ part-number-end. search needs) (λ number-requires κs. search needs) cast-steps
+    (λ sub-cells-at. search needs) (λ part-cells-at-start. search needs) (λ part-cells-at-end. search needs) (λ cells-at-requires κs. search needs)
+    (λ sub-accumulators-at. search needs) (λ part-accumulators-at-start. search needs) (λ part-accumulators-at-end. search needs)
+    (λ accumulators-at-requires κs. search needs) (λ sub-activities-at. search needs) (λ part-activities-at-start. search needs)
+    (λ part-activities-at-end. search needs) activities-at-requires (λ shared-slice-read-t21. search needs) (λ shared-slice-read-t23. search needs)
+    (λ shared-slice-read-t25. search needs) returns)

@@ -17,35 +17,8 @@ abbrev μ-loop : tie.MeasureT-loop
 loop-holds : tie.Need-loop-holds Inv-loop μ-loop
 loop-holds c = write-none encodeFrame (c .before .args .t1) 8 16 _ (c .before .pre)
 
-mul-at : tie.Need-mul-at Inv-loop μ-loop
-mul-at c = omega arith
-
-mul-f : tie.Need-mul-f Inv-loop μ-loop
-mul-f c = omega arith
-
-array-copy-out-f : tie.Need-array-copy-out-f Inv-loop μ-loop
-array-copy-out-f c = omega arith
-
-add-put-frame : tie.Need-add-put-frame Inv-loop μ-loop
-add-put-frame c = omega arith
-
-sub-put-frame : tie.Need-sub-put-frame Inv-loop μ-loop
-sub-put-frame c = omega arith
-
-part-put-frame-start : tie.Need-part-put-frame-start Inv-loop μ-loop
-part-put-frame-start c = omega arith
-
-part-put-frame-end : tie.Need-part-put-frame-end Inv-loop μ-loop
-part-put-frame-end c = omega arith
-
 put-frame-requires : tie.Need-put-frame-requires Inv-loop μ-loop
 put-frame-requires c κs = turn-sized _ 8 (c .before .before .before .loop .i) 16 (c .before .before .before .loop .inv .1 .full) (c .before .before .loop-test .taken)
-
-add-i : tie.Need-add-i Inv-loop μ-loop
-add-i c = omega arith
-
-loop-less : tie.Need-loop-less Inv-loop μ-loop
-loop-less c = omega arith
 
 loop-again : tie.Need-loop-again Inv-loop μ-loop
 loop-again c =
@@ -62,20 +35,6 @@ returns c = write-done encodeFrame _ 8 16 (c .before .loop .i) _ (c .before .loo
 pub put-frames-spec : {M : Type 1} → statement M
 put-frames-spec =
     tie.close
-    (tie.spec
-    Inv-loop
-    μ-loop
-    loop-holds
-    mul-at
-    mul-f
-    array-copy-out-f
-    add-put-frame
-    sub-put-frame
-    part-put-frame-start
-    part-put-frame-end
-    put-frame-requires
-    add-i
-    loop-less
-    loop-again
-    same-length
-    returns)
+    (tie.spec Inv-loop μ-loop loop-holds (λ mul-at. omega arith) (λ mul-f. omega arith) (λ array-copy-out-f. omega arith) (λ add-put-frame. omega arith)
+    (λ sub-put-frame. omega arith) (λ part-put-frame-start. omega arith) (λ part-put-frame-end. omega arith) put-frame-requires (λ add-i. omega arith)
+    (λ loop-less. omega arith) loop-again same-length returns)

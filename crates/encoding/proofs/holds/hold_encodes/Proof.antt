@@ -5,40 +5,13 @@ use borrow.Author.Needs.{needs}
 use Rattle.encoding.proofs.holds.hold_encodes.Statement.{statement}
 use Rattle.encoding.proofs.holds.hold_encodes.Tie as tie
 
-sub-number : tie.Need-sub-number
-sub-number c = search needs
-
-part-number-start : tie.Need-part-number-start
-part-number-start c = search needs
-
-part-number-end : tie.Need-part-number-end
-part-number-end c = search needs
-
-number-requires : tie.Need-number-requires
-number-requires c κs = search needs
-
 returns : tie.Need-returns
 unfolding holdEncodes
 returns c = rw (lt-leb _ 65535 (rw (c .before .number .ensures) at (c .if1 .taken)))
 
-shared-slice-read-registration : tie.Need-shared-slice-read-registration
-shared-slice-read-registration c = search needs
-
 returns-2 : tie.Need-returns-2
 unfolding holdEncodes
 returns-2 c = rw (le-leb _ 65535 (rw (c .before .before .before .number .ensures) at (c .before .before .if1 .left)), lt-leb _ 2 (c .if2 .taken))
-
-sub-are-zero : tie.Need-sub-are-zero
-sub-are-zero c = search needs
-
-part-are-zero-start : tie.Need-part-are-zero-start
-part-are-zero-start c = search needs
-
-part-are-zero-end : tie.Need-part-are-zero-end
-part-are-zero-end c = search needs
-
-are-zero-requires : tie.Need-are-zero-requires
-are-zero-requires c κs = search needs
 
 returns-3 : tie.Need-returns-3
 unfolding holdEncodes
@@ -49,16 +22,6 @@ returns-3 c =
 pub hold-encodes-spec : {M : Type 1} → statement M
 hold-encodes-spec =
     tie.close
-    (tie.spec
-    sub-number
-    part-number-start
-    part-number-end
-    number-requires
-    returns
-    shared-slice-read-registration
-    returns-2
-    sub-are-zero
-    part-are-zero-start
-    part-are-zero-end
-    are-zero-requires
-    returns-3)
+    (tie.spec (λ sub-number. search needs) (λ part-number-start. search needs) (λ part-number-end. search needs) (λ number-requires κs. search needs) returns
+    (λ shared-slice-read-registration. search needs) returns-2 (λ sub-are-zero. search needs) (λ part-are-zero-start. search needs)
+    (λ part-are-zero-end. search needs) (λ are-zero-requires κs. search needs) returns-3)

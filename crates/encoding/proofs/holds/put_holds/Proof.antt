@@ -17,35 +17,8 @@ abbrev μ-loop : tie.MeasureT-loop
 loop-holds : tie.Need-loop-holds Inv-loop μ-loop
 loop-holds c = write-none encodeHold (c .before .args .t1) 8 8 _ (c .before .pre)
 
-mul-at : tie.Need-mul-at Inv-loop μ-loop
-mul-at c = omega arith
-
-mul-h : tie.Need-mul-h Inv-loop μ-loop
-mul-h c = omega arith
-
-array-copy-out-h : tie.Need-array-copy-out-h Inv-loop μ-loop
-array-copy-out-h c = omega arith
-
-add-put-hold : tie.Need-add-put-hold Inv-loop μ-loop
-add-put-hold c = omega arith
-
-sub-put-hold : tie.Need-sub-put-hold Inv-loop μ-loop
-sub-put-hold c = omega arith
-
-part-put-hold-start : tie.Need-part-put-hold-start Inv-loop μ-loop
-part-put-hold-start c = omega arith
-
-part-put-hold-end : tie.Need-part-put-hold-end Inv-loop μ-loop
-part-put-hold-end c = omega arith
-
 put-hold-requires : tie.Need-put-hold-requires Inv-loop μ-loop
 put-hold-requires c κs = turn-sized _ 8 (c .before .before .before .loop .i) 8 (c .before .before .before .loop .inv .1 .full) (c .before .before .loop-test .taken)
-
-add-i : tie.Need-add-i Inv-loop μ-loop
-add-i c = omega arith
-
-loop-less : tie.Need-loop-less Inv-loop μ-loop
-loop-less c = omega arith
 
 loop-again : tie.Need-loop-again Inv-loop μ-loop
 loop-again c =
@@ -62,20 +35,6 @@ returns c = write-done encodeHold _ 8 8 (c .before .loop .i) _ (c .before .loop 
 pub put-holds-spec : {M : Type 1} → statement M
 put-holds-spec =
     tie.close
-    (tie.spec
-    Inv-loop
-    μ-loop
-    loop-holds
-    mul-at
-    mul-h
-    array-copy-out-h
-    add-put-hold
-    sub-put-hold
-    part-put-hold-start
-    part-put-hold-end
-    put-hold-requires
-    add-i
-    loop-less
-    loop-again
-    same-length
-    returns)
+    (tie.spec Inv-loop μ-loop loop-holds (λ mul-at. omega arith) (λ mul-h. omega arith) (λ array-copy-out-h. omega arith) (λ add-put-hold. omega arith)
+    (λ sub-put-hold. omega arith) (λ part-put-hold-start. omega arith) (λ part-put-hold-end. omega arith) put-hold-requires (λ add-i. omega arith)
+    (λ loop-less. omega arith) loop-again same-length returns)

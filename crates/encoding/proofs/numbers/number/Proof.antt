@@ -31,23 +31,11 @@ loop-holds : tie.Need-loop-holds Inv-loop μ-loop
 unfolding numberOf
 loop-holds c = (omega arith, sym (ap numberOf (drop-length (c .before .args .bytes .now))))
 
-sub-i : tie.Need-sub-i Inv-loop μ-loop
-sub-i c = omega arith
-
-shared-slice-read-wide : tie.Need-shared-slice-read-wide Inv-loop μ-loop
-shared-slice-read-wide c = omega arith
-
-wide-requires : tie.Need-wide-requires Inv-loop μ-loop
-wide-requires c κs = tt
-
 mul-x : tie.Need-mul-x Inv-loop μ-loop
 mul-x c = let h = below c in omega arith
 
 add-x : tie.Need-add-x Inv-loop μ-loop
 add-x c = let h = below c in omega (arith, c .wide .ensures, known c (c .before .before .before .loop .i - 1))
-
-loop-less : tie.Need-loop-less Inv-loop μ-loop
-loop-less c = omega arith
 
 loop-again : tie.Need-loop-again Inv-loop μ-loop
 loop-again c =
@@ -62,15 +50,5 @@ returns c =
 pub number-spec : {M : Type 1} → statement M
 number-spec =
     tie.close
-    (tie.spec
-    Inv-loop
-    μ-loop
-    loop-holds
-    sub-i
-    shared-slice-read-wide
-    wide-requires
-    mul-x
-    add-x
-    loop-less
-    loop-again
-    returns)
+    (tie.spec Inv-loop μ-loop loop-holds (λ sub-i. omega arith) (λ shared-slice-read-wide. omega arith) (λ wide-requires κs. tt) mul-x add-x
+    (λ loop-less. omega arith) loop-again returns)

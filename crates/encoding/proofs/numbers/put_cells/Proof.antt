@@ -18,36 +18,6 @@ abbrev μ-loop : tie.MeasureT-loop
 loop-holds : tie.Need-loop-holds Inv-loop μ-loop
 loop-holds c = write-none (bytesOf 4) (c .before .args .t1) 4 16 _ (c .before .pre)
 
-mul-at : tie.Need-mul-at Inv-loop μ-loop
-mul-at c = omega arith
-
-mul-put-number : tie.Need-mul-put-number Inv-loop μ-loop
-mul-put-number c = omega arith
-
-array-read-put-number : tie.Need-array-read-put-number Inv-loop μ-loop
-array-read-put-number c = omega arith
-
-add-put-number : tie.Need-add-put-number Inv-loop μ-loop
-add-put-number c = omega arith
-
-sub-put-number : tie.Need-sub-put-number Inv-loop μ-loop
-sub-put-number c = omega arith
-
-part-put-number-start : tie.Need-part-put-number-start Inv-loop μ-loop
-part-put-number-start c = omega arith
-
-part-put-number-end : tie.Need-part-put-number-end Inv-loop μ-loop
-part-put-number-end c = omega arith
-
-put-number-requires : tie.Need-put-number-requires Inv-loop μ-loop
-put-number-requires c κs = tt
-
-add-i : tie.Need-add-i Inv-loop μ-loop
-add-i c = omega arith
-
-loop-less : tie.Need-loop-less Inv-loop μ-loop
-loop-less c = omega arith
-
 loop-again : tie.Need-loop-again Inv-loop μ-loop
 loop-again c =
     let at-test = c .before .before .before .before .before in
@@ -66,20 +36,6 @@ returns c = write-done (bytesOf 4) _ 4 16 (c .before .loop .i) _ (c .before .loo
 pub put-cells-spec : {M : Type 1} → statement M
 put-cells-spec =
     tie.close
-    (tie.spec
-    Inv-loop
-    μ-loop
-    loop-holds
-    mul-at
-    mul-put-number
-    array-read-put-number
-    add-put-number
-    sub-put-number
-    part-put-number-start
-    part-put-number-end
-    put-number-requires
-    add-i
-    loop-less
-    loop-again
-    same-length
-    returns)
+    (tie.spec Inv-loop μ-loop loop-holds (λ mul-at. omega arith) (λ mul-put-number. omega arith) (λ array-read-put-number. omega arith)
+    (λ add-put-number. omega arith) (λ sub-put-number. omega arith) (λ part-put-number-start. omega arith) (λ part-put-number-end. omega arith)
+    (λ put-number-requires κs. tt) (λ add-i. omega arith) (λ loop-less. omega arith) loop-again same-length returns)
