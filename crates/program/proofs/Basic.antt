@@ -5,38 +5,73 @@ use native.Mathlib.Decide.{ℕ-discrete}
 use mathlib.Core.List.{List, [], _∷_, _++_}
 use mathlib.Core.Bool.{Bool, true, false, cond, _||_, _&&_, not}
 use mathlib.Core.Path.{_≡_, refl, sym, ap}
+use mathlib.Core.Logic.{_⊎_, inl, inr}
 use lib.ListN.{getD, drop, replicate}
 use lib.Dec.{eqb}
 use borrow.Author.Tests.{ne-eqb}
-
 -- TESTS
 
+-- A negated test.
+pub use borrow.Author.Tests.{not-true, not-false}
+
 -- Two different numbers are not equal.
-pub apart : _≡_ {A = ℕ} 0 1 → ⊥
-apart z = omega arith
+pub apart : {A : Type 0} → _≡_ {A = ℕ} 0 1 → A
+apart z = absurd (let y : ⊥ = omega arith in y)
 
 -- A test that passes does not fail.
-pub true-false : {a : Bool} → a ≡ true → a ≡ false → ⊥
-true-false p q = apart (cc)
+pub true-false : (a : Bool) → a ≡ true → a ≡ false → ⊥
+true-false a p q = apart (cc)
+
+-- A test goes one way or the other.
+pub decide : (a : Bool) → (a ≡ true) ⊎ (a ≡ false)
+decide true = inl refl
+decide false = inr refl
 
 -- Both tests pass.
 pub and-true : (a b : Bool) → a && b ≡ true → (a ≡ true) × (b ≡ true)
 and-true true b e = (refl, e)
-and-true false b e = absurd (true-false e refl)
+and-true false b e = absurd (true-false false e refl)
 
 -- And the other way.
-pub and-intro : {a b : Bool} → a ≡ true → b ≡ true → a && b ≡ true
-and-intro p q = rw (p, q)
+pub and-intro : (a b : Bool) → a ≡ true → b ≡ true → a && b ≡ true
+and-intro a b p q = rw (p, q)
 
--- The second test passes where the first does not fail.
+-- Not both pass, and the first does.
+pub and-false : (a b : Bool) → a && b ≡ false → a ≡ true → b ≡ false
+and-false true b p q = p
+and-false false b p q = absurd (true-false false q refl)
+
+-- The same, where the second is negated.
+pub and-not : (a b : Bool) → a && not b ≡ false → a ≡ true → b ≡ true
+and-not a b p q = not-false b (and-false a (not b) p q)
+
+-- One of two tests passes.
+pub or-true : (a b : Bool) → a || b ≡ true → (a ≡ true) ⊎ (b ≡ true)
+or-true true b e = inl refl
+or-true false b e = inr e
+
+-- And the other way, by the first,
+pub or-left : (a b : Bool) → a ≡ true → a || b ≡ true
+or-left a b p = rw p
+
+-- and by the second.
+pub or-right : (a b : Bool) → b ≡ true → a || b ≡ true
+or-right true b e = refl
+or-right false b e = e
+
+-- Neither of two tests passes.
+pub or-false : (a b : Bool) → a || b ≡ false → (a ≡ false) × (b ≡ false)
+or-false true b e = absurd (true-false true refl e)
+or-false false b e = (refl, e)
+
+-- And the other way.
+pub or-none : (a b : Bool) → a ≡ false → b ≡ false → a || b ≡ false
+or-none a b p q = rw (p, q)
+
+-- The second passes where the first does.
 pub implied : (a b : Bool) → not a || b ≡ true → a ≡ true → b ≡ true
 implied true b e p = e
-implied false b e p = absurd (true-false p refl)
-
--- A negated test that passes.
-pub not-true : (a : Bool) → not a ≡ true → a ≡ false
-not-true true e = sym e
-not-true false e = refl
+implied false b e p = absurd (true-false false p refl)
 
 -- A number is 0 where another branch is not 0: the test passed.
 pub passed : (b : Bool) (x m : ℕ) → cond b x (suc m) ≡ 0 → (b ≡ true) × (x ≡ 0)
@@ -44,9 +79,9 @@ passed true x m e = (refl, e)
 passed false x m e = absurd (let y : ⊥ = omega arith in y)
 
 -- The same, where the test failed.
-pub failed : (b : Bool) (m x : ℕ) → cond b (suc m) x ≡ 0 → (b ≡ false) × (x ≡ 0)
-failed true m x e = absurd (let y : ⊥ = omega arith in y)
-failed false m x e = (refl, e)
+pub cond-zero : (b : Bool) (n m : ℕ) → cond b (suc n) m ≡ 0 → (b ≡ false) × (m ≡ 0)
+cond-zero true n m e = absurd (let y : ⊥ = omega arith in y)
+cond-zero false n m e = (refl, e)
 
 -- The first of two numbers that is not 0 is 0: so are both.
 pub neither : (x y : ℕ) → cond (eqb x 0) y x ≡ 0 → (x ≡ 0) × (y ≡ 0)

@@ -1,27 +1,23 @@
 -- The bodies one after the other: what the scan of a table keeps from body to body, and what it says at the end.
-use Prim.Native.Nat.{ℕ, zero, suc, _+_, _-_, _<_, _≤_}
+use Prim.Native.Nat.{ℕ, suc, _+_, _-_, _<_, _≤_}
 use mathlib.Core.Path.{_≡_, refl, sym, ap, ap₂, subst, _∙_}
 use mathlib.Core.List.{List, [], _∷_, _++_, append-assoc, append-nil}
-use mathlib.Core.Bool.{Bool, true, false, cond, _&&_}
+use mathlib.Core.Bool.{Bool, true, false, cond}
 use native.Mathlib.Omega.{arith}
 use native.Mathlib.Numerals.{add-one}
-use lib.ListN.{length, getD, take, drop, set, replicate, length-set, length-drop, length-replicate, take-append-drop, drop-of-length-le}
+use lib.ListN.{length, getD, take, drop, set, replicate, length-set, length-drop, take-append-drop, drop-of-length-le}
 use lib.Seq.{drop-drop, take-suc-set, drop-set-lt}
-use lib.Dec.{eqb, ltb, leb}
+use lib.Dec.{leb}
 use borrow.Author.Tests.{eq-eqb, ne-eqb, leb-true}
 use Rattle.program.specs.Reading.{read, andOn, readingsAfter, readings, wholes, commandsOf}
-use Rattle.program.specs.Bodies.{firstBody, afterEnd}
-use Rattle.program.specs.Scan.{verdict, fitsLength, fitsBodies, scan, bytes, startsFrom, layoutOf}
-use Rattle.program.specs.Scanned.{opening, extentOf, refusedBy, scannedOf, numberIn}
+use Rattle.program.specs.Bodies.{afterEnd}
+use Rattle.program.specs.Scan.{verdict, fitsLength, fitsBodies, scan, startsFrom, layoutOf}
+use Rattle.program.specs.Inner.Scanned.{opening, extentOf, refusedBy, scannedOf}
 use Rattle.program.specs.declared.reading.Reading.{Reading}
 use Rattle.program.specs.declared.reading.Reading.the-variants.{Whole, Unknown, Cut, Outside}
-use Rattle.program.specs.declared.scan.Layout.{Layout}
-use Rattle.program.specs.declared.scan.Scanned.{Scanned}
-use Rattle.program.specs.declared.scan.Extent.{Extent}
 use Rattle.program.specs.declared.scan.Extent.the-variants.{Refused, Ended}
-use Rattle.program.proofs.RowLaws.{both}
-use Rattle.program.proofs.ReadLaws.{apart}
-use Rattle.program.proofs.ScanLaws.{Span, Reached, reached, turned}
+use Rattle.program.proofs.Basic.{apart, and-true}
+use Rattle.program.proofs.ScanLaws.{Span, reached, turned}
 
 -- NUMBERS 1 AND 2
 
@@ -32,14 +28,18 @@ pub record Opened (t : List ℕ) : Type 0 where
   pub few : getD t 0 0 ≤ 16
   pub verdict-is : scan t ≡ verdict (getD t 0 0) 0 0 (readings (drop 1 t))
 
+-- One zero less.
+zeros-less : (k : ℕ) (l : List ℕ) (n m : ℕ) → drop k l ≡ replicate n 0 → n ≡ suc m → drop (k + 1) l ≡ replicate m 0
+zeros-less k l n m e h = sym (drop-drop 1 k l) ∙ ap (drop 1) (e ∙ ap (λ (j : ℕ). replicate j 0) h)
+
 module _ (t : List ℕ) where
   lengths : fitsLength t ≡ true → (2 ≤ length t) × (length t ≤ 2048)
   unfolding fitsLength
-  lengths h = let q = both (leb 2 (length t)) (leb (length t) 2048) h in (leb-true _ _ (q .0), leb-true _ _ (q .1))
+  lengths h = let q = and-true (leb 2 (length t)) (leb (length t) 2048) h in (leb-true _ _ (q .0), leb-true _ _ (q .1))
 
   numbers : fitsBodies t ≡ true → (1 ≤ getD t 0 0) × (getD t 0 0 ≤ 16)
   unfolding fitsBodies
-  numbers h = let q = both (leb 1 (getD t 0 0)) (leb (getD t 0 0) 16) h in (leb-true _ _ (q .0), leb-true _ _ (q .1))
+  numbers h = let q = and-true (leb 1 (getD t 0 0)) (leb (getD t 0 0) 16) h in (leb-true _ _ (q .0), leb-true _ _ (q .1))
 
   pub opened : opening t ≡ 0 → Opened t
   unfolding opening scan
@@ -125,10 +125,7 @@ module _ {t : List ℕ} {n body at : ℕ} {starts : List ℕ} (p : Laying t n bo
                   ∙ append-assoc (take body starts) (at ∷ []) (startsFrom (n - (body + 1)) (at + size) (wholes (readings (drop (at + size) t))))
                   ∙ ap (λ (x : List ℕ). take body starts ++ x) more
                   ∙ p .done;
-              zeros =
-                  drop-set-lt (body + 1) starts body at (omega arith)
-                  ∙ sym (drop-drop 1 body starts)
-                  ∙ ap (drop 1) (p .zeros ∙ ap (λ (k : ℕ). replicate k 0) left);
+              zeros = drop-set-lt (body + 1) starts body at (omega arith) ∙ zeros-less body starts (16 - body) (16 - (body + 1)) (p .zeros) left;
             }
 
   module _ (last : n ≤ body) where

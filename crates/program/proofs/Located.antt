@@ -18,7 +18,7 @@ use Rattle.program.proofs.ShapeLaws.{Each, stride-pos}
 -- A place is an offset from which something is left.
 pub place-from : (body : Body) (o : ℕ) → isPlace body o ≡ true → from body o ≡ headOf (from body o) ∷ tailOf (from body o)
 unfolding from isPlace
-place-from [] o e = absurd (true-false e refl)
+place-from [] o e = absurd (true-false _ e refl)
 place-from (x ∷ xs) o e = by (eqb (x .offset) o) (place-from xs o) e
   where
     by : (q : Bool) → (isPlace xs o ≡ true → from xs o ≡ headOf (from xs o) ∷ tailOf (from xs o)) → q || isPlace xs o ≡ true
@@ -29,7 +29,7 @@ place-from (x ∷ xs) o e = by (eqb (x .offset) o) (place-from xs o) e
 -- And the other way.
 pub from-place : (body : Body) (o : ℕ) {x : Located} {r : Body} → from body o ≡ x ∷ r → isPlace body o ≡ true
 unfolding from isPlace
-from-place [] o e = absurd (apart (cc))
+from-place [] o e = apart (cc)
 from-place (y ∷ ys) o {x} {r} e = by (eqb (y .offset) o) (from-place ys o) e
   where
     by : (q : Bool) → (from ys o ≡ x ∷ r → isPlace ys o ≡ true) → cond q (y ∷ ys) (from ys o) ≡ x ∷ r → q || isPlace ys o ≡ true
@@ -39,7 +39,7 @@ from-place (y ∷ ys) o {x} {r} e = by (eqb (y .offset) o) (from-place ys o) e
 -- A fact of each command is one of the command found.
 pub each-at : (P : Located → Type 0) (body : Body) (o : ℕ) {x : Located} {r : Body} → Each P body → from body o ≡ x ∷ r → P x
 unfolding from Each
-each-at P [] o h e = absurd (apart (cc))
+each-at P [] o h e = apart (cc)
 each-at P (y ∷ ys) o {x} {r} h e = by (eqb (y .offset) o) (each-at P ys o) e
   where
     by : (q : Bool) → (Each P ys → from ys o ≡ x ∷ r → P x) → cond q (y ∷ ys) (from ys o) ≡ x ∷ r → P x
@@ -74,7 +74,7 @@ pub record Stands (n b : ℕ) (body : Body) (o : ℕ) (x : Located) (r : Body) :
   pub after : headOf body .offset ≤ o
 
 -- Looking for an offset: the first command stands there, before it, or where it ends.
-from-here : (x : Located) (xs : Body) (o : ℕ) → x .offset ≡ o → from (x ∷ xs) o ≡ x ∷ xs
+pub from-here : (x : Located) (xs : Body) (o : ℕ) → x .offset ≡ o → from (x ∷ xs) o ≡ x ∷ xs
 unfolding from
 from-here x xs o e = rw (eq-eqb (x .offset) o e)
 
@@ -91,7 +91,7 @@ from-onward x (more {y = y} {r = r} e q h) = let p = stride-pos x in from-past x
 stands-past : {n b : ℕ} {y : Located} {ys : Body} {o : ℕ} {x : Located} {r : Body} → Onward n b y ys → from ys o ≡ x ∷ r
     → (Shaped n b ys → from ys o ≡ x ∷ r → Stands n b ys o x r) → Stands n b (y ∷ ys) o x r
 unfolding from
-stands-past (last f) e ih = absurd (apart (cc))
+stands-past (last f) e ih = apart (cc)
 stands-past {y = y} (more {y = z} {r = s} f g k) e ih =
     let w = ih k e in
     let p = stride-pos y in
@@ -101,7 +101,7 @@ stands-past {y = y} (more {y = z} {r = s} f g k) e ih =
 -- What is found at an offset stands there.
 pub stands : {n b : ℕ} (body : Body) (o : ℕ) {x : Located} {r : Body} → Shaped n b body → from body o ≡ x ∷ r → Stands n b body o x r
 unfolding from
-stands [] o h e = absurd (apart (cc))
+stands [] o h e = apart (cc)
 stands {n} {b} (y ∷ ys) o {x} {r} h e = by (eqb (y .offset) o) refl e (onward ys h) (stands ys o)
   where
     by : (q : Bool) → eqb (y .offset) o ≡ q → cond q (y ∷ ys) (from ys o) ≡ x ∷ r → Onward n b y ys
@@ -123,10 +123,10 @@ shaped-some n b (x ∷ r) h = refl
 -- Nothing is left after END, and after another command the next one, which stands where this one ends.
 pub onward-end : {n b : ℕ} {x : Located} {r : Body} → Onward n b x r → isEnd (x .command) ≡ true → r ≡ []
 onward-end (last e) h = refl
-onward-end (more e q k) h = absurd (true-false h e)
+onward-end (more e q k) h = absurd (true-false _ h e)
 
 pub onward-goes : {n b : ℕ} {x : Located} {r : Body} → Onward n b x r → isEnd (x .command) ≡ false → r ≡ headOf r ∷ tailOf r
-onward-goes (last e) h = absurd (true-false e h)
+onward-goes (last e) h = absurd (true-false _ e h)
 onward-goes (more e q k) h = refl
 
 pub onward-offset : {n b : ℕ} {x y : Located} {r : Body} → Onward n b x (y ∷ r) → y .offset ≡ x .offset + stride x

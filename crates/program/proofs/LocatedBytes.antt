@@ -22,7 +22,7 @@ use Rattle.program.proofs.Located.{place-from, each-at, start-place, fo
 -- THE LAYOUT
 
 -- There is a start for each body, and it lies after the bytes of the bodies before.
-length-from : (n at : ℕ) (cs : List Command) → length (startsFrom n at cs) ≡ n
+pub length-from : (n at : ℕ) (cs : List Command) → length (startsFrom n at cs) ≡ n
 unfolding startsFrom
 length-from zero at cs = refl
 length-from (suc n) at cs = ap suc (length-from n (at + bytes (firstBody cs)) (afterEnd cs))

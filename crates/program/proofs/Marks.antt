@@ -18,7 +18,7 @@ use Rattle.program.specs.Places.{marks, tableMarks, placesOf}
 use Rattle.program.specs.declared.command.Command.{Command}
 use Rattle.program.proofs.Basic.{getD-padded}
 use Rattle.program.proofs.ShapeRows.{width-pos}
-use Rattle.program.proofs.ShapeListed.{Listed, over, next, left-end, next-body, listed-bytes, passes, onwards, before}
+use Rattle.program.proofs.ShapeListed.{Listed, over, next, none-left, next-body, listed-bytes, passes, onwards, before}
 use Rattle.program.proofs.ShapeLaws.{body-at}
 use Rattle.program.proofs.LocatedBytes.{start-is}
 
@@ -131,7 +131,7 @@ marks-next {n = n} {i = i} {left = left} (next {c = c} {cs = cs} inside legible 
     by : (e : Bool) → isEnd c ≡ e
         → (bodyAfter i c < n → getD (marks (bodyAfter i c) (leftAfter left c) cs) (bytes (firstBody cs) + o) 0 ≡ getD (marks (bodyAfter i c + 1) 0 (afterEnd cs)) o 0)
         → getD (marks i left (c ∷ cs)) (width c + bytes (cond e [] (firstBody cs)) + o) 0 ≡ getD (marks (i + 1) 0 (cond e cs (afterEnd cs))) o 0
-    by true e ih = let k : width c + 0 + o ≡ width c + o = omega arith in rw (k, marks-past i left c cs o, left-end n i left c fits e, e)
+    by true e ih = let k : width c + 0 + o ≡ width c + o = omega arith in rw (k, marks-past i left c cs o, none-left n i left c fits e, e)
     by false e ih =
         let k : width c + bytes (firstBody cs) + o ≡ width c + (bytes (firstBody cs) + o) = omega arith in
         let g = rw e at ih in

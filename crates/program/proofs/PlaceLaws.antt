@@ -1,10 +1,10 @@
 -- The marks of the commands, one after the other: those set so far with those to come are the table's, and zeros fill the rest.
-use Prim.Native.Nat.{ℕ, zero, suc, _+_, _-_, _<_, _≤_}
-use mathlib.Core.Path.{_≡_, refl, sym, ap, ap₂, subst, _∙_}
+use Prim.Native.Nat.{ℕ, suc, _+_, _-_, _<_, _≤_}
+use mathlib.Core.Path.{_≡_, refl, sym, ap, ap₂, _∙_}
 use mathlib.Core.List.{List, [], _∷_, _++_, append-assoc, append-nil}
 use mathlib.Core.Bool.{Bool, true, false, cond}
 use native.Mathlib.Omega.{arith}
-use lib.ListN.{length, getD, drop, set, replicate, length-drop, length-append, length-replicate, length-set, replicate-append-replicate, drop-of-length-le}
+use lib.ListN.{length, getD, drop, set, replicate, length-drop, length-append, length-replicate, replicate-append-replicate, drop-of-length-le}
 use lib.Seq.{drop-drop, set-at}
 use lib.Dec.{eqb}
 use borrow.Author.Tests.{eq-eqb, ne-eqb}
@@ -12,12 +12,13 @@ use Rattle.program.specs.Command.{width, isEnd}
 use Rattle.program.specs.Reading.{read, readings, readingsAfter, wholes, commandsOf}
 use Rattle.program.specs.Scan.{placing, leftAfter, bodyAfter, verdict, scan}
 use Rattle.program.specs.Places.{marks, tableMarks, placesOf}
-use Rattle.program.specs.Scanned.{opening, refusalOf, markOf}
+use Rattle.program.specs.Inner.Scanned.{opening, refusalOf, markOf}
 use Rattle.program.specs.declared.command.Command.{Command}
 use Rattle.program.specs.declared.reading.Reading.{Reading}
 use Rattle.program.specs.declared.reading.Reading.the-variants.{Whole, Unknown, Cut, Outside}
-use Rattle.program.proofs.ReadLaws.{Known, known, readings-whole, Stopped, ran-out, stopped, readings-stop}
-use Rattle.program.proofs.LayoutLaws.{Opened, opened}
+use Rattle.program.proofs.ShapeReading.{known}
+use Rattle.program.proofs.ReadLaws.{readings-whole, Stopped, ran-out, stopped, readings-stop}
+use Rattle.program.proofs.LayoutLaws.{opened}
 
 -- Where the scan turns a table down there is no place.
 pub places-none : (t : List ℕ) → (scan t ≡ 0 → ⊥) → replicate 2048 0 ≡ placesOf t
@@ -48,6 +49,10 @@ body-reach i n c lt = by (isEnd c)
     by : (x : Bool) → cond x (i + 1) i ≤ n
     by true = omega arith
     by false = omega arith
+
+-- Zeros in two parts.
+zeros-split : (a b n : ℕ) → a + b ≡ n → _≡_ {A = List ℕ} (replicate n 0) (replicate a 0 ++ replicate b 0)
+zeros-split a b n e = ap (λ (j : ℕ). replicate j 0) (sym e) ∙ sym (replicate-append-replicate a b 0)
 
 module _ {t : List ℕ} {n i at left : ℕ} {m : List ℕ} (p : Marking t n i at left m) where
   pub marking-long : length t ≤ 2048 → length m ≡ 2048
@@ -87,7 +92,7 @@ module _ {t : List ℕ} {n i at left : ℕ} {m : List ℕ} (p : Marking t n i at
 
       pub marking-fits : (0 < size) × (at + size ≤ length t)
       marking-fits =
-          let k = known (drop at t) c size whole in
+          let k = known (drop at t) (sym whole) in
           let h = simp length-drop at (k .inside) in
           let i = p .inside in
           (k .some, omega arith)
@@ -95,7 +100,7 @@ module _ {t : List ℕ} {n i at left : ℕ} {m : List ℕ} (p : Marking t n i at
       pub marking-on : length t ≤ 2048 → placing n i left c ≡ 0 → Marking t n (bodyAfter i c) (at + size) (leftAfter left c) (set m at (markOf i left))
       unfolding verdict marks wholes
       marking-on most ok =
-          let k = known (drop at t) c size whole in
+          let k = known (drop at t) (sym whole) in
           let f = marking-fits in
           let some = f .0 in
           let room = f .1 in
@@ -107,7 +112,7 @@ module _ {t : List ℕ} {n i at left : ℕ} {m : List ℕ} (p : Marking t n i at
           let one : 2048 - at ≡ suc (2047 - at) = omega arith in
           let two : size - 1 + (2048 - (at + size)) ≡ 2047 - at = omega arith in
           let zeros : _≡_ {A = List ℕ} (replicate (2047 - at) 0) (replicate (size - 1) 0 ++ replicate (2048 - (at + size)) 0) =
-          ap (λ (j : ℕ). replicate j 0) (sym two) ∙ sym (replicate-append-replicate (size - 1) (2048 - (at + size)) 0) in
+          zeros-split (size - 1) (2048 - (at + size)) (2047 - at) two in
           let back : marks i left (wholes (readings (drop at t))) ≡ v ∷ (replicate (size - 1) 0 ++ marks (bodyAfter i c) (leftAfter left c) (wholes (readings (drop (at + size) t)))) =
           rw (next, w) in
           record {

@@ -1,5 +1,5 @@
 -- The ranges of operands by number are the definitions' ranges, kind by kind; and what a reading is, test by test.
-use mathlib.Core.Path.{_≡_, refl, sym, ap, _∙_}
+use mathlib.Core.Path.{_≡_, refl, sym, _∙_}
 use mathlib.Core.Bool.{Bool, true, false, cond, _&&_}
 use mathlib.Core.List.{List, [], _∷_, map}
 use Prim.Native.Nat.{ℕ, zero, suc, _+_, _-_, _<_, _≤_}
@@ -8,14 +8,15 @@ use lib.Dec.{eqb, ltb, leb, leb·zero, leb·suc-suc}
 use lib.ListN.{length, getD, take, drop, length-drop}
 use lib.Seq.{take-all}
 use borrow.Author.Tests.{eqb-true, le-leb, lt-leb, lt-ltb, le-ltb}
-use Rattle.program.specs.Command.{Operand, clockName, accumulatorName, operatorCode, mask, bodyNumber, runCount, commandCount, cellNumber, valueByte, inside, Row, rows, rowAt, commandOf}
-use Rattle.program.specs.Coding.{kindCode, ranges, withinCode, coded, Made}
+use Rattle.program.specs.Command.{Operand, clockName, accumulatorName, operatorCode, mask, bodyNumber, runCount, commandCount, cellNumber, valueByte, inside, rows, rowAt, commandOf}
+use Rattle.program.specs.Inner.Coding.{kindCode, ranges, withinCode, coded, Made}
 use Rattle.program.specs.Reading.{allInside, read}
 use Rattle.program.specs.declared.command.Command.{Command}
 use Rattle.program.specs.declared.command.Command.the-variants.{End, Next, Clock, Resume, Drop, Async, Finish, Repeat, Acc, Offer, Read, Reset, Put, Fetch, Store, Add, Atom}
 use Rattle.program.specs.declared.reading.Reading.{Reading}
 use Rattle.program.specs.declared.reading.Reading.the-variants.{Whole, Unknown, Cut, Outside}
-use Rattle.program.proofs.RowLaws.{plain, plain-tail, both}
+use Rattle.program.proofs.Basic.{and-true}
+use Rattle.program.proofs.RowLaws.{plain, plain-tail}
 
 -- Below a bound is from 0 to one less.
 below : (n x : ℕ) → ltb x (suc n) ≡ leb 0 x && leb x n
@@ -48,7 +49,7 @@ unfolding Bytes
 inside-plain [] vs h p = refl
 inside-plain (o ∷ os) [] h p = refl
 inside-plain (o ∷ os) (v ∷ vs) h p =
-    let q = both (eqb (kindCode o) 0) (plain os) p in
+    let q = and-true (eqb (kindCode o) 0) (plain os) p in
     let k : kindCode o ≡ 0 = eqb-true (kindCode o) 0 (q .0) in
     rw (inside-code o v (h 0), k, any-within v (h 0)) (inside-plain os vs (λ i. h (suc i)) (q .1))
 

@@ -2,15 +2,16 @@
 use mathlib.Core.Path.{_≡_, refl, sym, ap, _∙_}
 use mathlib.Core.Bool.{Bool, true, false, cond, _&&_, _||_}
 use mathlib.Core.List.{List, [], _∷_, map}
-use Prim.Native.Nat.{ℕ, zero, suc, _+_, _<_, _≤_}
+use Prim.Native.Nat.{ℕ, zero, suc, _<_}
 use native.Mathlib.Omega.{arith}
-use lib.Dec.{eqb, ltb, leb}
+use lib.Dec.{eqb, ltb}
 use lib.ListN.{length, getD, drop, List·getD-map}
-use borrow.Author.Tests.{eq-eqb, ne-eqb}
+use borrow.Author.Tests.{ne-eqb}
 use Rattle.program.specs.Command.{Operand, clockName, accumulatorName, operatorCode, mask, bodyNumber, runCount, commandCount, cellNumber, valueByte, Row, rows, rowAt, rowOf, opcode, operandsOf, operandWhere, has, isBody, isRunCount, isCommandCount}
-use Rattle.program.specs.Coding.{kindCode, isKind, coded, padded, slotIn}
+use Rattle.program.specs.Inner.Coding.{kindCode, isKind, coded, padded, slotIn}
 use Rattle.program.specs.declared.command.Command.{Command}
 use Rattle.program.specs.declared.command.Command.the-variants.{End, Next, Clock, Resume, Drop, Async, Finish, Repeat, Acc, Offer, Read, Reset, Put, Fetch, Store, Add, Atom}
+use Rattle.program.proofs.Basic.{and-true}
 
 -- The rows as the code has them.
 abbrev pub codeRows : List (List ℕ)
@@ -58,15 +59,11 @@ pub everywhere : {A : Type 0} → (A → Bool) → List A → Bool
 everywhere test [] = true
 everywhere test (x ∷ l) = test x && everywhere test l
 
-pub both : (a b : Bool) → a && b ≡ true → (a ≡ true) × (b ≡ true)
-both true b h = (refl, h)
-both false b h = absurd (let z : _≡_ {A = ℕ} 0 1 = cc in let y : ⊥ = omega arith in y)
-
 pub each : {A : Type 0} (test : A → Bool) (l : List A) (d : A) → everywhere test l ≡ true → test d ≡ true → (i : ℕ) → test (getD l i d) ≡ true
 unfolding everywhere
 each test [] d all last i = last
-each test (x ∷ l) d all last zero = both (test x) (everywhere test l) all .0
-each test (x ∷ l) d all last (suc i) = each test l d (both (test x) (everywhere test l) all .1) last i
+each test (x ∷ l) d all last zero = and-true (test x) (everywhere test l) all .0
+each test (x ∷ l) d all last (suc i) = each test l d (and-true (test x) (everywhere test l) all .1) last i
 
 -- Operands without a range and a use of their own.
 abbrev pub plain : List Operand → Bool
@@ -84,8 +81,8 @@ module _ (kind : ℕ) (some : 0 < kind) where
   plain-none : (os : List Operand) → plain os ≡ true → has (isKind kind) os ≡ false
   plain-none [] h = refl
   plain-none (o ∷ os) h =
-      let k : kindCode o ≡ 0 = borrow.Author.Tests.eqb-true _ _ (both (eqb (kindCode o) 0) (plain os) h .0) in
-      rw (k, none) (plain-none os (both (eqb (kindCode o) 0) (plain os) h .1))
+      let k : kindCode o ≡ 0 = borrow.Author.Tests.eqb-true _ _ (and-true (eqb (kindCode o) 0) (plain os) h .0) in
+      rw (k, none) (plain-none os (and-true (eqb (kindCode o) 0) (plain os) h .1))
 
   -- Operand i of a list of kinds is of the kind.
   at : List Operand → ℕ → Bool

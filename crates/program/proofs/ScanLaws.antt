@@ -1,25 +1,25 @@
 -- What the scan makes of a body, command by command, and how the numbers of the bodies make the table's.
 use Prim.Native.Nat.{ℕ, zero, suc, _+_, _-_, _<_, _≤_}
-use mathlib.Core.Path.{_≡_, refl, sym, ap, subst, _∙_}
+use mathlib.Core.Path.{_≡_, refl, sym, ap, _∙_}
 use mathlib.Core.List.{List, [], _∷_}
-use mathlib.Core.Bool.{Bool, true, false, cond, _&&_, _||_, not}
+use mathlib.Core.Bool.{Bool, true, false, cond}
 use native.Mathlib.Omega.{arith}
-use lib.ListN.{length, getD, drop, length-drop}
+use lib.ListN.{length, drop, length-drop}
 use lib.Seq.{drop-drop}
-use lib.Dec.{eqb, ltb, leb, eqb·suc-zero}
+use lib.Dec.{eqb, ltb, eqb·suc-zero}
 use borrow.Author.Tests.{eq-eqb, ne-eqb, eqb-true, eqb-false, ltb-true}
-use Rattle.program.specs.Command.{rows, rowAt, rowOf, opcode, width, names, named, held, isEnd, usesCell}
+use Rattle.program.specs.Command.{rows, rowAt, rowOf, opcode, names, named, held, isEnd, usesCell}
 use Rattle.program.specs.Reading.{read, readings, wholes}
 use Rattle.program.specs.Bodies.{firstBody, afterEnd}
 use Rattle.program.specs.Scan.{nameFits, atomFits, placing, leftAfter, bodyAfter, verdict, bytes}
-use Rattle.program.specs.Scanned.{refusalOf, extentOf}
+use Rattle.program.specs.Inner.Scanned.{refusalOf, extentOf}
 use Rattle.program.specs.declared.command.Command.{Command}
 use Rattle.program.specs.declared.reading.Reading.{Reading}
 use Rattle.program.specs.declared.reading.Reading.the-variants.{Whole, Unknown, Cut, Outside}
-use Rattle.program.specs.declared.scan.Extent.{Extent}
 use Rattle.program.specs.declared.scan.Extent.the-variants.{Refused, Ended}
-use Rattle.program.proofs.RowLaws.{both}
-use Rattle.program.proofs.ReadLaws.{apart, Known, known, readings-whole, Stopped, ran-out, stopped, readings-stop, read-back}
+use Rattle.program.proofs.Basic.{apart, and-true}
+use Rattle.program.proofs.ShapeReading.{known}
+use Rattle.program.proofs.ReadLaws.{readings-whole, Stopped, ran-out, stopped, readings-stop, read-back}
 
 -- A BODY, COMMAND BY COMMAND
 
@@ -63,7 +63,7 @@ module _ (n i left : ℕ) (c : Command) (ok : placing n i left c ≡ 0) where
   pub name-after : names c ≡ true → (i < named c) × (named c < n)
   unfolding nameFits
   name-after some =
-      let q = both (ltb i (named c)) (ltb (named c) n) (rw some at (fits .0)) in
+      let q = and-true (ltb i (named c)) (ltb (named c) n) (rw some at (fits .0)) in
       (ltb-true _ _ (q .0), ltb-true _ _ (q .1))
 
 -- END holds no commands and is not on cells, so nothing is left of an ATOM after it.
@@ -107,7 +107,7 @@ module _ (n i : ℕ) (lt : i < n) where
     ends : isEnd c ≡ true → Span n i left s (Whole c size ∷ rs) size
     unfolding verdict wholes firstBody afterEnd bytes Names bodyAfter
     ends stop =
-        let k = known s c size whole in
+        let k = known s (sym whole) in
         record {
           some = k .some;
           inside = k .inside;
@@ -120,7 +120,7 @@ module _ (n i : ℕ) (lt : i < n) where
     goes : {more : ℕ} → isEnd c ≡ false → Span n i (leftAfter left c) (drop size s) rs more → Span n i left s (Whole c size ∷ rs) (size + more)
     unfolding verdict wholes firstBody afterEnd bytes Names bodyAfter
     goes {more} go p =
-        let k = known s c size whole in
+        let k = known s (sym whole) in
         let w = k .wide in
         let l = p .long in
         let q = simp length-drop at (p .inside) in

@@ -18,7 +18,7 @@ use Rattle.program.specs.Table.{overCount, numberOf, counted, refusedWit
 use Rattle.program.specs.declared.command.Command.{Command}
 use Rattle.program.specs.declared.command.Command.the-variants.{End}
 use Rattle.program.specs.declared.reading.Reading.the-variants.{Whole}
-use Rattle.program.proofs.Basic.{true-false, failed, neither}
+use Rattle.program.proofs.Basic.{true-false, cond-zero, neither}
 use Rattle.program.proofs.Shape.{OnCells, Sound, stride, Shaped, Accepted, Counted}
 use Rattle.program.proofs.ShapeRows.{width-pos, celled, closing}
 use Rattle.program.proofs.ShapeReading.{known}
@@ -78,7 +78,7 @@ module _ (n i : ℕ) (s : List ℕ) (c : Command) (at : ℕ) (own : read (drop a
   -- A body that ends with this command.
   walked-end : (left : ℕ) → Fit n i left c → isEnd c ≡ true → Walked n i s at left (c ∷ [])
   unfolding locate Shaped Each OnCells
-  walked-end (suc left) fit e = absurd (true-false e (celled c (fit .cell (omega arith)) .goes))
+  walked-end (suc left) fit e = absurd (true-false _ e (celled c (fit .cell (omega arith)) .goes))
   walked-end zero fit e =
       let none = closing c e .alone in
       record {
@@ -195,10 +195,10 @@ pub numbered-counted : (limit : ℕ) (t : List ℕ) → numberOf limit t ≡ 0 �
 unfolding numberOf overCount
 numbered-counted limit t e =
     let p = programOf t in
-    let a = failed (ltb 64 (activitiesOf p)) 8 _ (neither (scan t) _ e .1) in
-    let c = failed (ltb 16 (clocksOf p)) 9 _ (a .1) in
-    let k = failed (ltb 16 (accumulatorsOf p)) 10 _ (c .1) in
-    let w = failed (ltb limit (workOf p)) 11 0 (k .1) in
+    let a = cond-zero (ltb 64 (activitiesOf p)) 8 _ (neither (scan t) _ e .1) in
+    let c = cond-zero (ltb 16 (clocksOf p)) 9 _ (a .1) in
+    let k = cond-zero (ltb 16 (accumulatorsOf p)) 10 _ (c .1) in
+    let w = cond-zero (ltb limit (workOf p)) 11 0 (k .1) in
     record { activities = ltb-false _ _ (a .0); clocks = ltb-false _ _ (c .0); accumulators = ltb-false _ _ (k .0); work = ltb-false _ _ (w .0) }
 
 pub unnumbered : (limit : ℕ) (t : List ℕ) → scan t ≡ 0 → Counted limit (programOf t) → numberOf limit t ≡ 0

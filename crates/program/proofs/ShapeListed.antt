@@ -15,7 +15,7 @@ use Rattle.program.specs.Scan.{nameFits, atomFits, placing, leftAfter, b
 use Rattle.program.specs.declared.command.Command.{Command}
 use Rattle.program.specs.declared.reading.Reading.{Reading}
 use Rattle.program.specs.declared.reading.Reading.the-variants.{Whole, Unknown, Cut, Outside}
-use Rattle.program.proofs.Basic.{true-false, and-true, implied, passed, failed, neither, drop-pos}
+use Rattle.program.proofs.Basic.{true-false, and-true, implied, passed, cond-zero, neither, drop-pos}
 use Rattle.program.proofs.ShapeRows.{width-pos, celled, closing}
 use Rattle.program.proofs.ShapeReading.{known}
 
@@ -53,12 +53,12 @@ module _ (n : ℕ) where
       by : (r : Reading) → read (x ∷ s) ≡ r
           → ((skip i left : ℕ) → verdict n i left (readingsAfter s skip) ≡ 0 → Listed n i left (drop skip s) (wholes (readingsAfter s skip)))
           → verdict n i left (andOn r (readingsAfter s)) ≡ 0 → Listed n i left (x ∷ s) (wholes (andOn r (readingsAfter s)))
-      by Unknown h ih e = absurd (let z = failed (eqb i n) 7 3 e .1 in omega arith)
-      by Cut h ih e = absurd (let z = failed (eqb i n) 7 4 e .1 in omega arith)
-      by Outside h ih e = absurd (let z = failed (eqb i n) 7 5 e .1 in omega arith)
+      by Unknown h ih e = absurd (let z = cond-zero (eqb i n) 7 3 e .1 in omega arith)
+      by Cut h ih e = absurd (let z = cond-zero (eqb i n) 7 4 e .1 in omega arith)
+      by Outside h ih e = absurd (let z = cond-zero (eqb i n) 7 5 e .1 in omega arith)
       by (Whole c size) h ih e =
           let w = known (x ∷ s) h .wide in
-          let f = failed (eqb i n) 7 _ e in
+          let f = cond-zero (eqb i n) 7 _ e in
           let g = neither (placing n i left c) _ (f .1) in
           let d : drop (size - 1) s ≡ drop (width c) (x ∷ s) = rw w (drop-pos x s (width-pos c)) in
           next (eqb-false i n (f .0)) (rw w at h) (fit n i left c (g .0))
@@ -100,10 +100,10 @@ before zero cs = 0
 before (suc b) cs = bytes (firstBody cs) + before b (afterEnd cs)
 
 -- After END no command belongs to an ATOM.
-pub left-end : (n i left : ℕ) (c : Command) → Fit n i left c → isEnd c ≡ true → leftAfter left c ≡ 0
+pub none-left : (n i left : ℕ) (c : Command) → Fit n i left c → isEnd c ≡ true → leftAfter left c ≡ 0
 unfolding leftAfter
-left-end n i zero c f e = closing c e .alone
-left-end n i (suc left) c f e = absurd (true-false e (celled c (f .cell (omega arith)) .goes))
+none-left n i zero c f e = closing c e .alone
+none-left n i (suc left) c f e = absurd (true-false _ e (celled c (f .cell (omega arith)) .goes))
 
 -- The next body is listed, and so is body b.
 pub next-body : {n i left : ℕ} {s : List ℕ} {cs : List Command} → Listed n i left s cs → i < n → Listed n (i + 1) 0 (drop (bytes (firstBody cs)) s) (afterEnd cs)
@@ -116,7 +116,7 @@ next-body {n = n} {i = i} {left = left} {s = s} (next {c = c} {cs = cs} inside o
 
     by : (e : Bool) → isEnd c ≡ e → Rest e → (cond e (i + 1) i < n → Listed n (cond e (i + 1) i + 1) 0 (drop (bytes (firstBody cs)) (drop (width c) s)) (afterEnd cs))
         → Listed n (i + 1) 0 (drop (width c + bytes (cond e [] (firstBody cs))) s) (cond e cs (afterEnd cs))
-    by true e r ih = let k : width c + 0 ≡ width c = omega arith in rw (k, ← left-end n i left c fits e) r
+    by true e r ih = let k : width c + 0 ≡ width c = omega arith in rw (k, ← none-left n i left c fits e) r
     by false e r ih = rw (drop-drop (bytes (firstBody cs)) (width c) s) at (ih h)
 
 pub listed-at : {n i : ℕ} {s : List ℕ} {cs : List Command} (b : ℕ) → Listed n i 0 s cs → i + b < n → Listed n (i + b) 0 (drop (before b cs) s) (onwards b cs)

@@ -17,6 +17,7 @@ use Rattle.program.proofs.Shape.{Ranged}
 
 -- What is known of s where it starts with the command c of so many bytes.
 pub record Known (s : List ℕ) (c : Command) (size : ℕ) : Type 0 where
+  pub some : 0 < size
   pub wide : size ≡ width c
   pub inside : size ≤ length s
   pub ranged : Ranged c
@@ -31,7 +32,7 @@ firsts-inside : (kinds : List Operand) (s : List ℕ) (i : ℕ) → i + length k
 firsts-inside [] s i h e = refl
 firsts-inside (kind ∷ kinds) s i h e =
     let f = and-true (inside kind (getD s i 0)) _ (rw (drop-cons s i 0 (omega arith)) at e) in
-    and-intro (f .0) (firsts-inside kinds s (suc i) (omega arith) (f .1))
+    and-intro _ _ (f .0) (firsts-inside kinds s (suc i) (omega arith) (f .1))
 
 -- The command of a byte has this byte, and the operands that were read.
 Kept : List ℕ → ℕ → Type 0
@@ -40,7 +41,7 @@ Kept s op =
     → (opcode (commandOf op s) ≡ op) × (allInside (rowAt op .operands) (operandsOf (commandOf op s)) ≡ true)
 
 kept : (s : List ℕ) (op : ℕ) → Kept s op
-unfolding Kept rows rowAt opcode operandsOf commandOf
+unfolding Kept rows rowAt commandOf
 kept s op =
     each-from (Kept s) 0 (λ lt e. (refl, e))
     (each-from (Kept s) 1 (λ lt e. (refl, e))
@@ -71,15 +72,15 @@ record Tests (a b e : Bool) (c₀ c : Command) (w₀ size : ℕ) : Type 0 where
   long : w₀ ≡ size
 
 tests : (a b e : Bool) (c₀ c : Command) (w₀ size : ℕ) → cond a Unknown (cond b Cut (cond e (Whole c₀ w₀) Outside)) ≡ Whole c size → Tests a b e c₀ c w₀ size
-tests true b e c₀ c w₀ size h = absurd (apart (cc))
-tests false true e c₀ c w₀ size h = absurd (apart (cc))
-tests false false false c₀ c w₀ size h = absurd (apart (cc))
+tests true b e c₀ c w₀ size h = apart (cc)
+tests false true e c₀ c w₀ size h = apart (cc)
+tests false false false c₀ c w₀ size h = apart (cc)
 tests false false true c₀ c w₀ size h = record { known = refl; whole = refl; good = refl; same = cc; long = cc }
 
 -- A whole command that was read: its bytes are there and its operands are inside their ranges.
 pub known : (s : List ℕ) {c : Command} {size : ℕ} → read s ≡ Whole c size → Known s c size
 unfolding Kept rows read Ranged rowOf width
-known [] h = absurd (apart (cc))
+known [] h = apart (cc)
 known (op ∷ s) {c} {size} h =
     let kinds = rowAt op .operands in
     let f = tests (leb (length rows) op) (ltb (length s) (length kinds)) (allInside kinds s) (commandOf op s) c (length kinds + 1) size h in
@@ -87,6 +88,7 @@ known (op ∷ s) {c} {size} h =
     let k = kept s op (leb-false 17 op (f .known)) (firsts-inside kinds s 0 (omega arith) (f .good)) in
     let e : opcode c ≡ op = ap opcode (sym (f .same)) ∙ k .0 in
     record {
+      some = let l = f .long in omega arith;
       wide = rw e (sym (f .long));
       inside = let l = f .long in omega arith;
       ranged = rw e (rw (f .same) at (k .1));

@@ -5,7 +5,7 @@ use mathlib.Core.Path.{_≡_, refl, ap}
 use native.Mathlib.Omega.{arith}
 use lib.Dec.{eqb}
 use borrow.Author.Tests.{eqb-true}
-use Rattle.program.specs.Command.{rows, rowAt, opcode, operandsOf, rowOf, width, names, named, times, held, isEnd, usesCell}
+use Rattle.program.specs.Command.{rows, rowAt, rowOf, width, names, named, times, held, isEnd, usesCell}
 use Rattle.program.specs.Count.{ownWork, ownActivities, ownClocks, ownAccumulators}
 use Rattle.program.specs.declared.command.Command.{Command}
 use Rattle.program.specs.declared.command.Command.the-variants.{End, Next, Clock, Resume, Drop, Async, Finish, Repeat, Acc, Offer, Read, Reset, Put, Fetch, Store, Add, Atom}
@@ -110,7 +110,7 @@ endFits s = not (s .isEnd) || (eqb (s .width) 1 && (not (s .names) && eqb (s .he
 
 -- Command by command, the rows say that, and it fits.
 each-said : (c : Command) → (saidOf c ≡ saying c) × (cellFits (saying c) && endFits (saying c) ≡ true)
-unfolding saidOf cellFits endFits rows rowAt opcode operandsOf rowOf width names named times held isEnd usesCell
+unfolding saidOf cellFits endFits rows rowAt rowOf width names named times held isEnd usesCell
 each-said End = (refl, refl)
 each-said Next = (refl, refl)
 each-said (Clock c) = (refl, refl)

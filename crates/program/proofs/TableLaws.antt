@@ -1,23 +1,22 @@
 -- Numbers 9 to 12 by saturated counts, and the answers that they lead to.
-use Prim.Native.Nat.{ℕ, suc, _+_, _≤_, _<_, min}
-use mathlib.Core.Path.{_≡_, refl, sym, ap, ap₂, _∙_}
-use mathlib.Core.List.{List, [], _∷_}
+use Prim.Native.Nat.{ℕ, _+_, _≤_, _<_}
+use mathlib.Core.Path.{_≡_, refl, sym, _∙_}
+use mathlib.Core.List.{List}
 use mathlib.Core.Bool.{Bool, true, false, cond}
 use native.Mathlib.Omega.{arith}
 use native.Mathlib.Numerals.{add-one}
 use native.Mathlib.Decide.{decLe}
 use lib.ListN.{getD}
-use lib.Dec.{eqb, ltb, leb, leb·suc-suc}
-use borrow.Author.Tests.{eq-eqb, ne-eqb, lt-ltb, le-ltb, ltb-false, eqb-true}
+use lib.Dec.{eqb, ltb, leb·suc-suc}
+use borrow.Author.Tests.{ne-eqb, lt-ltb, le-ltb, ltb-false, eqb-true}
 use Rattle.program.specs.Bodies.{programOf}
 use Rattle.program.specs.Scan.{scan, layoutOf}
-use Rattle.program.specs.Scanned.{refusedBy, scannedOf}
-use Rattle.program.specs.Count.{tally, ownWork, ownActivities, ownClocks, ownAccumulators, workOf, activitiesOf, clocksOf, accumulatorsOf}
-use Rattle.program.specs.Coding.{weight}
-use Rattle.program.specs.Counting.{cap, Counts, overCounts}
+use Rattle.program.specs.Inner.Scanned.{refusedBy, scannedOf}
+use Rattle.program.specs.Count.{tally, ownActivities, workOf, activitiesOf, clocksOf, accumulatorsOf}
+use Rattle.program.specs.Inner.Coding.{weight}
+use Rattle.program.specs.Inner.Counting.{cap, Counts, overCounts}
 use Rattle.program.specs.Table.{overCount, numberOf, counted, refusedWith, tableOf}
 use Rattle.program.specs.declared.scan.Scanned.{Scanned}
-use Rattle.program.specs.declared.scan.Layout.{Layout}
 
 -- A limit below the cap is passed by the saturated count where it is by the count itself.
 cap-over : (limit x : ℕ) → limit < 65536 → ltb limit (cap x) ≡ ltb limit x

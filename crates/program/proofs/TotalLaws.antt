@@ -1,14 +1,14 @@
 -- Sums that are saturated: a count may be cut before it is multiplied and added, and four of them are added one by one.
-use Prim.Native.Nat.{ℕ, zero, suc, _+_, _*_, _-_, _≤_, _<_, min}
-use mathlib.Core.Path.{_≡_, refl, sym, ap, _∙_}
-use mathlib.Core.List.{List, [], _∷_}
+use Prim.Native.Nat.{ℕ, zero, suc, _+_, _*_, _≤_, _<_, min}
+use mathlib.Core.Path.{_≡_, _∙_}
+use mathlib.Core.List.{List}
 use native.Mathlib.Omega.{arith}
 use native.Mathlib.Nat.{zero-mul, suc-mul, mul-le-mul}
 use native.Mathlib.Decide.{ℕ-discrete, decLe}
 use lib.ListN.{length, getD, set}
 use lib.Seq.{getD-set-same, getD-set-other}
-use Rattle.program.specs.Coding.{weight}
-use Rattle.program.specs.Counting.{cap, Small, Added}
+use Rattle.program.specs.Inner.Coding.{weight}
+use Rattle.program.specs.Inner.Counting.{cap, Added}
 use Rattle.program.specs.declared.command.Command.{Command}
 
 pub product : (k w : ℕ) → k < 256 → w ≤ 65536 → k * w ≤ 16711680

@@ -1,6 +1,6 @@
 -- What the walk over a body keeps, from command to command: the sums so far and what is yet to come make the body's counts.
-use Prim.Native.Nat.{ℕ, zero, suc, _+_, _*_, _-_, _≤_, _<_, min}
-use mathlib.Core.Path.{_≡_, refl, sym, ap, subst, _∙_}
+use Prim.Native.Nat.{ℕ, zero, suc, _+_, _*_, _≤_, _<_}
+use mathlib.Core.Path.{_≡_, refl, sym, ap, _∙_}
 use mathlib.Core.List.{List, [], _∷_}
 use mathlib.Core.Logic.{_⊎_, inl, inr, ⊎-elim}
 use mathlib.Core.Bool.{Bool, true, false, cond, not}
@@ -11,17 +11,18 @@ use lib.ListN.{length, getD, set, take, drop, replicate, length-drop}
 use lib.Seq.{drop-drop, getD-set-same, getD-set-other}
 use Rattle.program.specs.Command.{names, named, times, held, width, isEnd}
 use Rattle.program.specs.Reading.{read, readings, wholes}
-use Rattle.program.specs.Bodies.{Located, Body, firstBody, locate, programOf}
+use Rattle.program.specs.Bodies.{firstBody, locate, programOf}
 use Rattle.program.specs.Scan.{scan, leftAfter, layoutOf}
-use Rattle.program.specs.Scanned.{refusalOf}
+use Rattle.program.specs.Inner.Scanned.{refusalOf}
 use Rattle.program.specs.Count.{sumOver, tally}
-use Rattle.program.specs.Coding.{weight}
-use Rattle.program.specs.Counting.{cap, Small, Added, Counts, Noted, Counting, Filled}
+use Rattle.program.specs.Inner.Coding.{weight}
+use Rattle.program.specs.Inner.Counting.{cap, Small, Added, Counts, Noted, Counting, Filled}
 use Rattle.program.specs.declared.command.Command.{Command}
 use Rattle.program.specs.declared.scan.Layout.{Layout}
 use Rattle.program.specs.declared.reading.Reading.{Reading}
 use Rattle.program.specs.declared.reading.Reading.the-variants.{Whole, Unknown, Cut, Outside}
-use Rattle.program.proofs.ReadLaws.{Known, known, readings-whole, Stopped, ran-out, stopped, readings-stop}
+use Rattle.program.proofs.ShapeReading.{known}
+use Rattle.program.proofs.ReadLaws.{readings-whole, Stopped, ran-out, stopped, readings-stop}
 use Rattle.program.proofs.ScanLaws.{Names}
 use Rattle.program.proofs.TotalLaws.{cap-times}
 use Rattle.program.proofs.CountLaws.{bodyAt, Laid, laid, accepted-open, count-rule, runs-names}
@@ -125,7 +126,7 @@ module _ {t code : List ℕ} {n body : ℕ} {notes : List (List ℕ)} {sums : Li
     {c : Command} {size : ℕ} (whole : Whole c size ≡ read (drop at code)) where
   pub walked-fits : (0 < size) × (at + size ≤ length code)
   walked-fits =
-      let k = known (drop at code) c size whole in
+      let k = known (drop at code) (sym whole) in
       let h = simp length-drop at (k .inside) in
       let i = w .inside in
       (k .some, omega arith)
@@ -139,7 +140,7 @@ module _ {t code : List ℕ} {n body : ℕ} {notes : List (List ℕ)} {sums : Li
   next-names = (rw (rest-next code at c size whole) at (w .names)) .1
 
   wide : at + width c ≡ at + size
-  wide = let e = known (drop at code) c size whole .wide in omega arith
+  wide = let e = known (drop at code) (sym whole) .wide in omega arith
 
   -- It belongs to an ATOM: the sums stay.
   pub walked-inner : (left ≡ 0 → ⊥) → Walked t code n body notes sums (at + size) (leftAfter left c) (not (isEnd c))

@@ -1,9 +1,9 @@
 -- The bodies of a table: located commands, the k commands inside their ATOM.
-use Prim.Native.Nat.{ℕ, zero, suc, _+_, _-_}
+use Prim.Native.Nat.{ℕ, zero, suc, _+_}
 use mathlib.Core.List.{List, [], _∷_}
-use mathlib.Core.Bool.{Bool, true, false, cond, _||_, _&&_, not}
-use lib.ListN.{length, getD, take}
-use lib.Dec.{ltb, leb, eqb}
+use mathlib.Core.Bool.{Bool, false, cond, _||_}
+use lib.ListN.{getD, take}
+use lib.Dec.{eqb}
 use Rattle.program.specs.Command.{width, held, isEnd}
 use Rattle.program.specs.Reading.{commandsOf}
 use Rattle.program.specs.declared.command.Command.{Command}

@@ -1,9 +1,9 @@
 -- Counting from the table, with no bound: one tally over the weight of a command.
 use Prim.Native.Nat.{ℕ, zero, suc, _+_, _*_}
-use mathlib.Core.List.{List, [], _∷_}
+use mathlib.Core.List.{[], _∷_}
 use lib.ListN.{length, getD}
 use Rattle.program.specs.Command.{rowOf, named, times}
-use Rattle.program.specs.Bodies.{Located, Body, Program}
+use Rattle.program.specs.Bodies.{Body, Program}
 use Rattle.program.specs.declared.command.Command.{Command}
 
 -- What the commands of a body come to, where `of b` is what body b comes to: "FINISH and ASYNC 1 plus the work of b; REPEAT 1 plus n times that

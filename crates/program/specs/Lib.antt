@@ -1,3 +1,4 @@
+-- What a reader must believe
 pub mod Command
 pub mod Reading
 pub mod Bodies
@@ -5,6 +6,5 @@ pub mod Scan
 pub mod Count
 pub mod Table
 pub mod Places
-pub mod Coding
-pub mod Scanned
-pub mod Counting
+-- What the code promises itself on the way
+pub mod Inner

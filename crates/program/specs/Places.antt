@@ -1,7 +1,7 @@
 -- The place of every command, for number 13's "a place is no command of its body (the k commands belong to their ATOM)".
 use Prim.Native.Nat.{ℕ, _+_, _-_}
 use mathlib.Core.List.{List, [], _∷_, _++_}
-use mathlib.Core.Bool.{Bool, true, false, cond}
+use mathlib.Core.Bool.{cond}
 use lib.ListN.{length, replicate}
 use lib.Dec.{eqb}
 use Rattle.program.specs.Command.{width}

@@ -1,9 +1,9 @@
 -- Reading commands from bytes: numbers 3, 4 and 5 of "Turned down".
 use Prim.Native.Nat.{ℕ, zero, suc, _+_, _-_}
 use mathlib.Core.List.{List, [], _∷_}
-use mathlib.Core.Bool.{Bool, true, false, cond, _||_, _&&_, not}
+use mathlib.Core.Bool.{Bool, true, cond, _&&_}
 use lib.ListN.{length, drop}
-use lib.Dec.{ltb, leb, eqb}
+use lib.Dec.{ltb, leb}
 use Rattle.program.specs.Command.{Operand, inside, rows, rowAt, commandOf}
 use Rattle.program.specs.declared.command.Command.{Command}
 use Rattle.program.specs.declared.reading.Reading.{Reading}

@@ -1,7 +1,7 @@
 -- The scan of a whole table: numbers 1 to 8 of "Turned down", in checking order, and where each body begins.
 use Prim.Native.Nat.{ℕ, zero, suc, _+_, _-_}
 use mathlib.Core.List.{List, [], _∷_, _++_}
-use mathlib.Core.Bool.{Bool, true, false, cond, _||_, _&&_, not}
+use mathlib.Core.Bool.{Bool, cond, _||_, _&&_, not}
 use lib.ListN.{length, getD, drop, replicate}
 use lib.Dec.{ltb, leb, eqb}
 use Rattle.program.specs.Command.{width, names, named, held, isEnd, usesCell}

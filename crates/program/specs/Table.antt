@@ -1,12 +1,11 @@
 -- A table that is read and counted: numbers 1 to 12 of "Turned down".
 use Prim.Native.Nat.{ℕ}
 use mathlib.Core.List.{List}
-use mathlib.Core.Bool.{Bool, true, false, cond}
+use mathlib.Core.Bool.{cond}
 use lib.Dec.{ltb, eqb}
 use Rattle.program.specs.Bodies.{Program, programOf}
 use Rattle.program.specs.Scan.{scan, layoutOf, noLayout}
 use Rattle.program.specs.Count.{workOf, activitiesOf, clocksOf, accumulatorsOf}
-use Rattle.program.specs.declared.scan.Layout.{Layout}
 use Rattle.program.specs.declared.table.Table.{Table}
 
 -- "9. Activities are above 64. 10. Clocks are above 16. 11. Accumulators are above 16. 12. Work is above 65,535." The work limit is a parameter.

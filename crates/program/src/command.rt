@@ -3,7 +3,7 @@ ghost use mathlib.Core.Path.{_≡_};
 ghost use mathlib.Core.List.{[], _∷_};
 ghost use Prim.Native.Nat.{_+_, _<_, _%_, _/_};
 ghost use Rattle.program.specs.Command.{rowAt, rowOf, opcode, operandsOf, width, names, named, times, held, isEnd, usesCell, operandWhere};
-ghost use Rattle.program.specs.Coding.{coded, isKind, padded, slotIn};
+ghost use Rattle.program.specs.Inner.Coding.{coded, isKind, padded, slotIn};
 use super::rows::column;
 
 // A command with its operands as they stand in the table.

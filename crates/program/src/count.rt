@@ -3,8 +3,8 @@ ghost use mathlib.Core.Path.{_≡_};
 ghost use Prim.Native.Nat.{_+_, _<_, _≤_};
 ghost use lib.ListN.{getD, set};
 ghost use Rattle.program.specs.Scan.{scan, layoutOf};
-ghost use Rattle.program.specs.Coding.{weight};
-ghost use Rattle.program.specs.Counting.{cap, Small, Added, Counts, Counting, Filled};
+ghost use Rattle.program.specs.Inner.Coding.{weight};
+ghost use Rattle.program.specs.Inner.Counting.{cap, Small, Added, Counts, Counting, Filled};
 use super::command::Command;
 use super::command::is_end;
 use super::command::named;
@@ -15,6 +15,9 @@ use super::reading::read;
 use super::rows::column;
 use super::scan::Layout;
 use super::scan::left_after;
+
+// The rows of counts of the bodies, as far as they are known: all zeros for a body that is not counted yet.
+type Notes = [[u64; 4]; 16];
 
 // Entry k of what a command counts by itself: work 0, activities 1, clocks 2, accumulators 3.
 fn own(command: Command, k: usize) -> usize
@@ -46,7 +49,7 @@ fn added(sums: [u64; 4], command: Command, runs: u64, counts: [u64; 4]) -> [u64;
 }
 
 // The notes with the row of a body.
-fn noted(notes: [[u64; 4]; 16], body: usize, sums: [u64; 4]) -> [[u64; 4]; 16]
+fn noted(notes: Notes, body: usize, sums: [u64; 4]) -> Notes
     requires { ⌜ body < 16 ⌝ }
     ensures { λ r. ⌜ r ≡ set notes body sums ⌝ }
 {
@@ -56,13 +59,7 @@ fn noted(notes: [[u64; 4]; 16], body: usize, sums: [u64; 4]) -> [[u64; 4]; 16]
 }
 
 // Fills the row of a body in the notes. It goes down into the bodies that its commands name, which have greater numbers, and counts none twice.
-fn count(
-    table: &[u8],
-    code: &[u8],
-    layout: Layout,
-    body: usize,
-    memo: [[u64; 4]; 16],
-) -> [[u64; 4]; 16]
+fn count(table: &[u8], code: &[u8], layout: Layout, body: usize, memo: Notes) -> Notes
     requires { ⌜ Counting (now table) (now code) layout body memo ⌝ }
     ensures { λ r. ⌜ Filled (now (table .entry)) body r ⌝ }
 {
@@ -91,8 +88,7 @@ fn count(
                 let start = layout.starts[b];
                 let next = count(table, &table[start..], layout, b, notes);
                 notes = next;
-                let counts = next[b];
-                let with = added(sums, command, runs as u64, counts);
+                let with = added(sums, command, runs as u64, next[b]);
                 sums = with;
             } else {
                 let with = added(sums, command, 0, [0u64; 4]);

@@ -4,7 +4,7 @@ ghost use Prim.Native.Nat.{_<_};
 ghost use lib.ListN.{replicate};
 ghost use Rattle.program.specs.Scan.{bodyAfter};
 ghost use Rattle.program.specs.Places.{placesOf};
-ghost use Rattle.program.specs.Scanned.{markOf};
+ghost use Rattle.program.specs.Inner.Scanned.{markOf};
 use super::command::Command;
 use super::command::is_end;
 use super::command::wide;

@@ -3,7 +3,7 @@ ghost use mathlib.Core.Path.{_≡_};
 ghost use Prim.Native.Nat.{_<_, _≤_};
 ghost use lib.ListN.{length, getD, drop};
 ghost use Rattle.program.specs.Command.{word, rowAt};
-ghost use Rattle.program.specs.Coding.{withinCode, Made};
+ghost use Rattle.program.specs.Inner.Coding.{withinCode, Made};
 ghost use Rattle.program.specs.Reading.{read, allInside};
 use super::command::Command;
 use super::command::wide;

@@ -3,7 +3,7 @@ ghost use mathlib.Core.Path.{_≡_};
 ghost use Prim.Native.Nat.{_<_};
 ghost use lib.ListN.{getD};
 ghost use Rattle.program.specs.Command.{rowAt};
-ghost use Rattle.program.specs.Coding.{coded};
+ghost use Rattle.program.specs.Inner.Coding.{coded};
 use super::command::wide;
 
 // A row for each command byte: the width, the kinds of operands 1 to 3, the own work, activities, clocks and accumulators.

@@ -3,7 +3,7 @@ ghost use mathlib.Core.Path.{_≡_};
 ghost use Prim.Native.Nat.{_+_};
 ghost use lib.ListN.{getD};
 ghost use Rattle.program.specs.Table.{tableOf, refusedWith};
-ghost use Rattle.program.specs.Counting.{overCounts};
+ghost use Rattle.program.specs.Inner.Counting.{overCounts};
 use super::count::counts;
 use super::scan::Layout;
 use super::scan::scan;

@@ -1,11 +1,11 @@
 -- The operand stands where the row has its kind.
-use mathlib.Core.Path.{_≡_, refl, sym, ap, _∙_}
+use mathlib.Core.Path.{_≡_, sym, ap, _∙_}
 use Prim.Native.Nat.{ℕ}
 use mathlib.Core.List.{List}
 use lib.ListN.{getD}
 use borrow.Author.Tests.{lt-ltb, le-ltb}
-use Rattle.program.specs.Command.{rowAt, opcode, operandsOf}
-use Rattle.program.specs.Coding.{coded, padded, slotIn}
+use Rattle.program.specs.Command.{rowAt, opcode}
+use Rattle.program.specs.Inner.Coding.{coded, slotIn}
 use Rattle.program.proofs.RowLaws.{where-kind}
 use borrow.Author.Needs.{needs}
 use Rattle.program.proofs.command.chosen.Statement.{statement}
@@ -16,21 +16,6 @@ use Rattle.program.proofs.command.opcode.Reads as opcode-reads
 use Rattle.program.proofs.command.operands.Reads as operands-reads
 use Rattle.program.proofs.command.slot.Reads as slot-reads
 use Rattle.program.proofs.command.wide.Reads as wide-reads
-
-opcode-requires : tie.Need-opcode-requires
-opcode-requires c κs = search needs
-
-slot-requires : tie.Need-slot-requires
-slot-requires c κs = search needs
-
-operands-requires : tie.Need-operands-requires
-operands-requires c κs = search needs
-
-array-read-wide : tie.Need-array-read-wide
-array-read-wide c = search needs
-
-wide-requires : tie.Need-wide-requires
-wide-requires c κs = search needs
 
 returns : tie.Need-returns
 returns c =
@@ -53,11 +38,5 @@ returns-2 c =
 pub chosen-spec : {M : Type 1} → statement M
 chosen-spec =
     tie.close
-    (tie.spec
-    opcode-requires
-    slot-requires
-    operands-requires
-    array-read-wide
-    wide-requires
-    returns
-    returns-2)
+    (tie.spec (λ opcode-requires κs. search needs) (λ slot-requires κs. search needs) (λ operands-requires κs. search needs) (λ array-read-wide. search needs)
+    (λ wide-requires κs. search needs) returns returns-2)

@@ -1,5 +1,5 @@
 -- It is a test of the command byte.
-use mathlib.Core.Path.{_≡_, refl, sym, ap, _∙_}
+use mathlib.Core.Path.{ap}
 use lib.Dec.{eqb}
 use Prim.Native.Nat.{ℕ}
 use Rattle.program.specs.Command.{isEnd}
@@ -10,12 +10,10 @@ use Rattle.program.proofs.command.is_end.Reads as reads
 use Rattle.program.proofs.command.is_end.Lts as lts
 use Rattle.program.proofs.command.opcode.Reads as opcode-reads
 
-opcode-requires : tie.Need-opcode-requires
-opcode-requires c κs = search needs
-
 returns : tie.Need-returns
 unfolding isEnd
 returns c = ap (λ (op : ℕ). eqb op 0) (c .opcode .ensures .0)
 
 pub is-end-spec : {M : Type 1} → statement M
-is-end-spec = tie.close (tie.spec opcode-requires returns)
+is-end-spec = tie.close
+    (tie.spec (λ opcode-requires κs. search needs) returns)

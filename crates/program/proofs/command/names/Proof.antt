@@ -1,11 +1,11 @@
 -- The row has the kind of a body or not.
-use mathlib.Core.Path.{_≡_, refl, sym, ap, _∙_}
+use mathlib.Core.Path.{sym, ap, _∙_}
 use Prim.Native.Nat.{ℕ}
 use mathlib.Core.Bool.{Bool}
 use native.Mathlib.Omega.{arith}
 use lib.Dec.{ltb}
 use Rattle.program.specs.Command.{Operand, rowAt, opcode, has, names, rowOf}
-use Rattle.program.specs.Coding.{coded, slotIn}
+use Rattle.program.specs.Inner.Coding.{coded, slotIn}
 use Rattle.program.proofs.RowLaws.{has-kind, body-kind}
 use borrow.Author.Needs.{needs}
 use Rattle.program.proofs.command.names.Statement.{statement}
@@ -15,12 +15,6 @@ use Rattle.program.proofs.command.names.Lts as lts
 use Rattle.program.proofs.command.opcode.Reads as opcode-reads
 use Rattle.program.proofs.command.slot.Reads as slot-reads
 
-opcode-requires : tie.Need-opcode-requires
-opcode-requires c κs = search needs
-
-slot-requires : tie.Need-slot-requires
-slot-requires c κs = search needs
-
 returns : tie.Need-returns
 unfolding names rowOf
 returns c =
@@ -29,4 +23,5 @@ returns c =
     ∙ ap (λ (test : Operand → Bool). has test (rowAt (opcode (c .before .before .args .command)) .operands)) body-kind
 
 pub names-spec : {M : Type 1} → statement M
-names-spec = tie.close (tie.spec opcode-requires slot-requires returns)
+names-spec = tie.close
+    (tie.spec (λ opcode-requires κs. search needs) (λ slot-requires κs. search needs) returns)

@@ -6,60 +6,6 @@ use Rattle.program.proofs.command.operands.Reads as reads
 use Rattle.program.proofs.command.operands.Lts as lts
 use Rattle.program.proofs.command.bytes_of.Reads as bytes-of-reads
 
-enum-told : tie.Need-enum-told
-enum-told c = search needs
-
-enum-told-2 : tie.Need-enum-told-2
-enum-told-2 c = search needs
-
-enum-known-command : tie.Need-enum-known-command
-enum-known-command c = search needs
-
-enum-known-command-2 : tie.Need-enum-known-command-2
-enum-known-command-2 c = search needs
-
-enum-known-command-3 : tie.Need-enum-known-command-3
-enum-known-command-3 c = search needs
-
-enum-known-command-4 : tie.Need-enum-known-command-4
-enum-known-command-4 c = search needs
-
-enum-known-command-5 : tie.Need-enum-known-command-5
-enum-known-command-5 c = search needs
-
-enum-known-command-6 : tie.Need-enum-known-command-6
-enum-known-command-6 c = search needs
-
-enum-known-command-7 : tie.Need-enum-known-command-7
-enum-known-command-7 c = search needs
-
-enum-known-command-8 : tie.Need-enum-known-command-8
-enum-known-command-8 c = search needs
-
-enum-known-command-9 : tie.Need-enum-known-command-9
-enum-known-command-9 c = search needs
-
-enum-known-command-10 : tie.Need-enum-known-command-10
-enum-known-command-10 c = search needs
-
-enum-known-command-11 : tie.Need-enum-known-command-11
-enum-known-command-11 c = search needs
-
-bytes-of-requires : tie.Need-bytes-of-requires
-bytes-of-requires c κs = search needs
-
-enum-known-command-12 : tie.Need-enum-known-command-12
-enum-known-command-12 c = search needs
-
-enum-known-command-13 : tie.Need-enum-known-command-13
-enum-known-command-13 c = search needs
-
-enum-known-command-14 : tie.Need-enum-known-command-14
-enum-known-command-14 c = search needs
-
-enum-known-command-15 : tie.Need-enum-known-command-15
-enum-known-command-15 c = search needs
-
 returns : tie.Need-returns
 returns c = rw (c .enum-told .given .1)
 
@@ -114,39 +60,9 @@ returns-17 c = rw (c .before .command15 .given .1)
 pub operands-spec : {M : Type 1} → statement M
 operands-spec =
     tie.close
-    (tie.spec
-    enum-told
-    enum-told-2
-    enum-known-command
-    enum-known-command-2
-    enum-known-command-3
-    enum-known-command-4
-    enum-known-command-5
-    enum-known-command-6
-    enum-known-command-7
-    enum-known-command-8
-    enum-known-command-9
-    enum-known-command-10
-    enum-known-command-11
-    bytes-of-requires
-    enum-known-command-12
-    enum-known-command-13
-    enum-known-command-14
-    enum-known-command-15
-    returns
-    returns-2
-    returns-3
-    returns-4
-    returns-5
-    returns-6
-    returns-7
-    returns-8
-    returns-9
-    returns-10
-    returns-11
-    returns-12
-    returns-13
-    returns-14
-    returns-15
-    returns-16
-    returns-17)
+    (tie.spec (λ enum-told. search needs) (λ enum-told-2. search needs) (λ enum-known-command. search needs) (λ enum-known-command-2. search needs)
+    (λ enum-known-command-3. search needs) (λ enum-known-command-4. search needs) (λ enum-known-command-5. search needs) (λ enum-known-command-6. search needs)
+    (λ enum-known-command-7. search needs) (λ enum-known-command-8. search needs) (λ enum-known-command-9. search needs) (λ enum-known-command-10. search needs)
+    (λ enum-known-command-11. search needs) (λ bytes-of-requires κs. search needs) (λ enum-known-command-12. search needs)
+    (λ enum-known-command-13. search needs) (λ enum-known-command-14. search needs) (λ enum-known-command-15. search needs) returns returns-2 returns-3
+    returns-4 returns-5 returns-6 returns-7 returns-8 returns-9 returns-10 returns-11 returns-12 returns-13 returns-14 returns-15 returns-16 returns-17)

@@ -1,7 +1,7 @@
 -- The three kinds are compared in turn.
-use mathlib.Core.Path.{_≡_, refl, sym, ap, _∙_}
+use mathlib.Core.Path.{sym, _∙_}
 use borrow.Author.Tests.{eq-eqb, ne-eqb}
-use Rattle.program.specs.Coding.{slotIn}
+use Rattle.program.specs.Inner.Coding.{slotIn}
 use borrow.Author.Needs.{needs}
 use Rattle.program.proofs.command.slot.Statement.{statement}
 use Rattle.program.proofs.command.slot.Tie as tie
@@ -9,22 +9,13 @@ use Rattle.program.proofs.command.slot.Reads as reads
 use Rattle.program.proofs.command.slot.Lts as lts
 use Rattle.program.proofs.rows.column.Reads as column-reads
 
-column-requires : tie.Need-column-requires
-column-requires c κs = search needs
-
 returns : tie.Need-returns
 unfolding slotIn
 returns c = rw (eq-eqb _ _ (sym (c .before .column .ensures .0) ∙ c .if1 .taken))
 
-column-requires-2 : tie.Need-column-requires-2
-column-requires-2 c κs = search needs
-
 returns-2 : tie.Need-returns-2
 unfolding slotIn
 returns-2 c = rw (ne-eqb _ _ (λ e. c .before .before .if1 .left (c .before .before .before .column .ensures .0 ∙ e)), eq-eqb _ _ (sym (c .before .column2 .ensures .0) ∙ c .if2 .taken))
-
-column-requires-3 : tie.Need-column-requires-3
-column-requires-3 c κs = search needs
 
 returns-3 : tie.Need-returns-3
 unfolding slotIn
@@ -37,11 +28,5 @@ returns-4 c = rw (ne-eqb _ _ (λ e. c .before .before .before .before .if1 .left
 pub slot-spec : {M : Type 1} → statement M
 slot-spec =
     tie.close
-    (tie.spec
-    column-requires
-    returns
-    column-requires-2
-    returns-2
-    column-requires-3
-    returns-3
+    (tie.spec (λ column-requires κs. search needs) returns (λ column-requires-2 κs. search needs) returns-2 (λ column-requires-3 κs. search needs) returns-3
     returns-4)

@@ -1,6 +1,6 @@
 -- A command runs the body that it names as often as its count of runs says, or once.
-use mathlib.Core.Path.{_≡_, refl, sym, ap, _∙_}
-use mathlib.Core.Bool.{Bool, cond}
+use mathlib.Core.Path.{ap, _∙_}
+use mathlib.Core.Bool.{Bool}
 use Rattle.program.specs.Command.{Operand, rowOf, operandsOf, operandWhere, names, times}
 use Rattle.program.proofs.RowLaws.{runs-kind}
 use borrow.Author.Needs.{needs}
@@ -10,12 +10,6 @@ use Rattle.program.proofs.command.times.Reads as reads
 use Rattle.program.proofs.command.times.Lts as lts
 use Rattle.program.proofs.command.chosen.Reads as chosen-reads
 use Rattle.program.proofs.command.names.Reads as names-reads
-
-names-requires : tie.Need-names-requires
-names-requires c κs = search needs
-
-chosen-requires : tie.Need-chosen-requires
-chosen-requires c κs = search needs
 
 returns : tie.Need-returns
 unfolding times
@@ -31,4 +25,5 @@ unfolding times
 returns-2 c = (rw (← c .before .names .ensures, c .if1 .left), search needs)
 
 pub times-spec : {M : Type 1} → statement M
-times-spec = tie.close (tie.spec names-requires chosen-requires returns returns-2)
+times-spec = tie.close
+    (tie.spec (λ names-requires κs. search needs) (λ chosen-requires κs. search needs) returns returns-2)

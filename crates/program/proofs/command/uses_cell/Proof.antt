@@ -1,5 +1,4 @@
 -- It is a test of the command byte.
-use mathlib.Core.Path.{_≡_, refl, sym, ap, _∙_}
 use borrow.Author.Tests.{le-leb, lt-leb}
 use Rattle.program.specs.Command.{usesCell}
 use borrow.Author.Needs.{needs}
@@ -8,9 +7,6 @@ use Rattle.program.proofs.command.uses_cell.Tie as tie
 use Rattle.program.proofs.command.uses_cell.Reads as reads
 use Rattle.program.proofs.command.uses_cell.Lts as lts
 use Rattle.program.proofs.command.opcode.Reads as opcode-reads
-
-opcode-requires : tie.Need-opcode-requires
-opcode-requires c κs = search needs
 
 returns : tie.Need-returns
 unfolding usesCell
@@ -21,4 +17,5 @@ unfolding usesCell
 returns-2 c = rw (← c .before .opcode .ensures .0, lt-leb _ _ (c .if1 .left))
 
 pub uses-cell-spec : {M : Type 1} → statement M
-uses-cell-spec = tie.close (tie.spec opcode-requires returns returns-2)
+uses-cell-spec = tie.close
+    (tie.spec (λ opcode-requires κs. search needs) returns returns-2)

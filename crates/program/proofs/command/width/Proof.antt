@@ -1,7 +1,7 @@
 -- The row's first entry is the width.
-use mathlib.Core.Path.{_≡_, refl, sym, ap, _∙_}
+use mathlib.Core.Path.{_∙_}
 use Rattle.program.specs.Command.{width, rowOf}
-use Rattle.program.specs.Coding.{coded}
+use Rattle.program.specs.Inner.Coding.{coded}
 use borrow.Author.Needs.{needs}
 use Rattle.program.proofs.command.width.Statement.{statement}
 use Rattle.program.proofs.command.width.Tie as tie
@@ -10,15 +10,10 @@ use Rattle.program.proofs.command.width.Lts as lts
 use Rattle.program.proofs.rows.column.Reads as column-reads
 use Rattle.program.proofs.command.opcode.Reads as opcode-reads
 
-opcode-requires : tie.Need-opcode-requires
-opcode-requires c κs = search needs
-
-column-requires : tie.Need-column-requires
-column-requires c κs = search needs
-
 returns : tie.Need-returns
 unfolding width rowOf coded
 returns c = c .column .ensures .0 ∙ rw (c .before .opcode .ensures .0)
 
 pub width-spec : {M : Type 1} → statement M
-width-spec = tie.close (tie.spec opcode-requires column-requires returns)
+width-spec = tie.close
+    (tie.spec (λ opcode-requires κs. search needs) (λ column-requires κs. search needs) returns)

@@ -1,14 +1,14 @@
 -- Each body is counted after those that it names; the distance to the last body falls.
 use mathlib.Core.Path.{_≡_, refl, sym, ap, subst, _∙_}
 use Prim.Native.Nat.{_+_, _-_, _≤_}
-use mathlib.Core.List.{List, [], _∷_}
-use mathlib.Core.Bool.{true, not}
+use mathlib.Core.List.{[]}
+use mathlib.Core.Bool.{true}
 use native.Mathlib.Omega.{arith}
 use borrow.Author.Needs.{needs}
 use lib.ListN.{length, getD, drop}
 use Rattle.program.specs.Command.{named, times}
 use Rattle.program.specs.Reading.{read}
-use Rattle.program.specs.Counting.{Counts}
+use Rattle.program.specs.Inner.Counting.{Counts}
 use Rattle.program.specs.declared.reading.Reading.the-variants.{Whole}
 use Rattle.program.proofs.RangeLaws.{tail-part}
 use Rattle.program.proofs.ReadLaws.{not-whole}
@@ -158,11 +158,11 @@ count-count-requires t c κs = (
   asked-named (c .before .before .before .before .before .before .before .before .before .before .before .before .before .before .before .before .before .before .before .pre .1) _ (c .before .before .named .result) (c .before .before .before .before .before .before .before .before .before .before .before .before .before .before .loop .notes) (named-here t (c .before .before) .1) (tail-part (c .before .before .before .before .before .before .before .before .before .before .before .before .before .before .before .before .before .before .before .args .table .now) (getD (c .before .before .before .before .before .before .before .before .before .before .before .before .before .before .before .before .before .before .before .args .t3 .starts) (c .before .before .named .result) 0)) (c .before .before .before .before .before .before .before .before .before .before .before .before .before .before .loop .inv .noted),
 )
 
-count-mul-counts : (t : ℕ) → count-lts.Need-mul-counts (calls t) (count-at t) count.Post count-Inv-loop count-μ-loop
-count-mul-counts t c = let h = named-few t (c .before .before .before) in omega arith
+count-mul-added : (t : ℕ) → count-lts.Need-mul-added (calls t) (count-at t) count.Post count-Inv-loop count-μ-loop
+count-mul-added t c = let h = named-few t (c .before .before .before) in omega arith
 
-count-array-copy-out-counts : (t : ℕ) → count-lts.Need-array-copy-out-counts (calls t) (count-at t) count.Post count-Inv-loop count-μ-loop
-count-array-copy-out-counts t c = named-few t (c .before .before .before)
+count-array-copy-out-added : (t : ℕ) → count-lts.Need-array-copy-out-added (calls t) (count-at t) count.Post count-Inv-loop count-μ-loop
+count-array-copy-out-added t c = named-few t (c .before .before .before)
 
 count-added-requires : (t : ℕ) → count-lts.Need-added-requires (calls t) (count-at t) count.Post count-Inv-loop count-μ-loop
 count-added-requires t c κs = (c .before .before .before .before .before .before .before .before .before .before .before .before .before .before .before .before .loop .inv .small, (counts-small (c .before .before .before .before .before .before .before .before .before .before .before .before .before .before .before .before .before .before .before .before .before .args .table .now) (named (c .before .before .before .before .before .before .before .before .before .before .before .found .given .0 .0)) _ (counted-here t (c .before)), c .before .before .before .before .before .before .times .ensures .1))
@@ -234,8 +234,8 @@ pub +count-spec : {M : Type 1} → statement M
     (count-part-count-start t)
     (count-part-count-end t)
     (count-count-requires t)
-    (count-mul-counts t)
-    (count-array-copy-out-counts t)
+    (count-mul-added t)
+    (count-array-copy-out-added t)
     (count-added-requires t)
     (count-loop-less t)
     (count-loop-again t)

@@ -1,11 +1,10 @@
 -- Each sum is added and saturated by itself.
-use mathlib.Core.Path.{_≡_, refl, sym, ap, _∙_}
+use mathlib.Core.Path.{_≡_, ap, _∙_}
 use Prim.Native.Nat.{ℕ, _+_, _*_, _-_, _≤_, _<_}
 use native.Mathlib.Omega.{arith}
 use borrow.Author.Needs.{needs}
 use lib.ListN.{length, getD, length-set}
-use Rattle.program.specs.Coding.{weight}
-use Rattle.program.specs.Counting.{cap, Small, Added}
+use Rattle.program.specs.Inner.Counting.{cap, Small}
 use Rattle.program.proofs.TotalLaws.{product, Upto, upto-none, upto-more, upto-all}
 use Rattle.program.proofs.count.added.Statement.{statement}
 use Rattle.program.proofs.count.added.Tie as tie
@@ -37,44 +36,14 @@ small-here c = record {
 loop-holds : tie.Need-loop-holds Inv-loop μ-loop
 loop-holds c = (search needs, upto-none (c .args .t1) (c .args .command) (c .args .runs) (c .args .t4) (c .args .t1))
 
-mul-capped : tie.Need-mul-capped Inv-loop μ-loop
-mul-capped c = search needs
-
-array-read-capped : tie.Need-array-read-capped Inv-loop μ-loop
-array-read-capped c = search needs
-
-own-requires : tie.Need-own-requires Inv-loop μ-loop
-own-requires c κs = search needs
-
 add-capped : tie.Need-add-capped Inv-loop μ-loop
 add-capped c = let s = small-here c in omega arith
-
-mul-capped-2 : tie.Need-mul-capped-2 Inv-loop μ-loop
-mul-capped-2 c = search needs
-
-array-read-capped-2 : tie.Need-array-read-capped-2 Inv-loop μ-loop
-array-read-capped-2 c = search needs
 
 mul-capped-3 : tie.Need-mul-capped-3 Inv-loop μ-loop
 mul-capped-3 c = let s = small-here c .third in omega arith
 
 add-capped-2 : tie.Need-add-capped-2 Inv-loop μ-loop
 add-capped-2 c = let s = small-here c in omega arith
-
-capped-requires : tie.Need-capped-requires Inv-loop μ-loop
-capped-requires c κs = search needs
-
-mul-out : tie.Need-mul-out Inv-loop μ-loop
-mul-out c = search needs
-
-array-write-out : tie.Need-array-write-out Inv-loop μ-loop
-array-write-out c = search needs
-
-add-k : tie.Need-add-k Inv-loop μ-loop
-add-k c = search needs
-
-loop-less : tie.Need-loop-less Inv-loop μ-loop
-loop-less c = search needs
 
 loop-again : tie.Need-loop-again Inv-loop μ-loop
 loop-again c = (
@@ -89,22 +58,6 @@ returns c = upto-all (c .before .before .args .t1) (c .before .before .args .com
 pub added-spec : {M : Type 1} → statement M
 added-spec =
     tie.close
-    (tie.spec
-    Inv-loop
-    μ-loop
-    loop-holds
-    mul-capped
-    array-read-capped
-    own-requires
-    add-capped
-    mul-capped-2
-    array-read-capped-2
-    mul-capped-3
-    add-capped-2
-    capped-requires
-    mul-out
-    array-write-out
-    add-k
-    loop-less
-    loop-again
-    returns)
+    (tie.spec Inv-loop μ-loop loop-holds (λ mul-capped. search needs) (λ array-read-capped. search needs) (λ own-requires κs. search needs) add-capped
+    (λ mul-capped-2. search needs) (λ array-read-capped-2. search needs) mul-capped-3 add-capped-2 (λ capped-requires κs. search needs)
+    (λ mul-out. search needs) (λ array-write-out. search needs) (λ add-k. search needs) (λ loop-less. search needs) loop-again returns)

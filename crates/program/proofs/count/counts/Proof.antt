@@ -9,35 +9,17 @@ use Rattle.program.proofs.count.counts.Reads as reads
 use Rattle.program.proofs.count.counts.Lts as lts
 use Rattle.program.proofs.count.count.Reads as count-reads
 
-element-copy-out-start : tie.Need-element-copy-out-start
-element-copy-out-start c = search needs
-
 sub-count : tie.Need-sub-count
 sub-count c = first-inside (c .before .before .args .table .now) (c .before .before .args .t2) (c .before .before .pre .0) (c .before .before .pre .1)
 
 part-count-start : tie.Need-part-count-start
 part-count-start c = first-inside (c .before .before .args .table .now) (c .before .before .args .t2) (c .before .before .pre .0) (c .before .before .pre .1)
 
-part-count-end : tie.Need-part-count-end
-part-count-end c = search needs
-
 count-requires : tie.Need-count-requires
 count-requires c κs = asked-first (c .before .before .before .args .table .now) (c .before .before .before .args .t2) (c .before .before .before .pre .0) (c .before .before .before .pre .1) _ (tail-part (c .before .before .before .args .table .now) (getD (c .before .before .before .args .t2 .starts) 0 0))
-
-array-copy-out-result : tie.Need-array-copy-out-result
-array-copy-out-result c = search needs
-
-returns : tie.Need-returns
-returns c = search needs
 
 pub counts-spec : {M : Type 1} → statement M
 counts-spec =
     tie.close
-    (tie.spec
-    element-copy-out-start
-    sub-count
-    part-count-start
-    part-count-end
-    count-requires
-    array-copy-out-result
-    returns)
+    (tie.spec (λ element-copy-out-start. search needs) sub-count part-count-start (λ part-count-end. search needs) count-requires
+    (λ array-copy-out-result. search needs) (λ returns. search needs))

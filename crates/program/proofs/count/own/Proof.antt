@@ -1,10 +1,10 @@
 -- The row's last four entries are what a command counts by itself.
-use mathlib.Core.Path.{_≡_, refl, sym, ap, _∙_}
+use mathlib.Core.Path.{sym, ap, _∙_}
 use Prim.Native.Nat.{ℕ, _+_}
 use lib.ListN.{getD}
 use lib.Seq.{getD-drop}
 use Rattle.program.specs.Command.{rowOf, rowAt, opcode}
-use Rattle.program.specs.Coding.{coded, weight}
+use Rattle.program.specs.Inner.Coding.{coded, weight}
 use borrow.Author.Needs.{needs}
 use Rattle.program.proofs.count.own.Statement.{statement}
 use Rattle.program.proofs.count.own.Tie as tie
@@ -12,15 +12,6 @@ use Rattle.program.proofs.count.own.Reads as reads
 use Rattle.program.proofs.count.own.Lts as lts
 use Rattle.program.proofs.rows.column.Reads as column-reads
 use Rattle.program.proofs.command.opcode.Reads as opcode-reads
-
-opcode-requires : tie.Need-opcode-requires
-opcode-requires c κs = search needs
-
-add-column : tie.Need-add-column
-add-column c = search needs
-
-column-requires : tie.Need-column-requires
-column-requires c κs = search needs
 
 returns : tie.Need-returns
 unfolding weight rowOf coded
@@ -32,4 +23,5 @@ returns c = (
 )
 
 pub own-spec : {M : Type 1} → statement M
-own-spec = tie.close (tie.spec opcode-requires add-column column-requires returns)
+own-spec = tie.close
+    (tie.spec (λ opcode-requires κs. search needs) (λ add-column. search needs) (λ column-requires κs. search needs) returns)

@@ -7,12 +7,6 @@ use Rattle.program.proofs.places.body_after.Reads as reads
 use Rattle.program.proofs.places.body_after.Lts as lts
 use Rattle.program.proofs.command.is_end.Reads as is-end-reads
 
-is-end-requires : tie.Need-is-end-requires
-is-end-requires c κs = search needs
-
-add-result : tie.Need-add-result
-add-result c = search needs
-
 returns : tie.Need-returns
 unfolding bodyAfter
 returns c = rw (← c .before .is-end .ensures, c .if1 .taken)
@@ -22,4 +16,5 @@ unfolding bodyAfter
 returns-2 c = rw (← c .before .is-end .ensures, c .if1 .left)
 
 pub body-after-spec : {M : Type 1} → statement M
-body-after-spec = tie.close (tie.spec is-end-requires add-result returns returns-2)
+body-after-spec = tie.close
+    (tie.spec (λ is-end-requires κs. search needs) (λ add-result. search needs) returns returns-2)

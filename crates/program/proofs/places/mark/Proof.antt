@@ -6,9 +6,6 @@ use Rattle.program.proofs.places.mark.Tie as tie
 use Rattle.program.proofs.places.mark.Reads as reads
 use Rattle.program.proofs.places.mark.Lts as lts
 
-add-result : tie.Need-add-result
-add-result c = search needs
-
 returns : tie.Need-returns
 returns c = rw (eq-eqb _ _ (c .if1 .taken))
 
@@ -16,4 +13,5 @@ returns-2 : tie.Need-returns-2
 returns-2 c = rw (ne-eqb _ _ (c .if1 .left))
 
 pub mark-spec : {M : Type 1} → statement M
-mark-spec = tie.close (tie.spec add-result returns returns-2)
+mark-spec = tie.close
+    (tie.spec (λ add-result. search needs) returns returns-2)

@@ -1,13 +1,12 @@
 -- Command by command the marks so far with those to come are the table's.
-use mathlib.Core.Path.{_≡_, refl, sym, ap, ap₂, subst, _∙_}
+use mathlib.Core.Path.{_≡_, sym, ap, ap₂, subst, _∙_}
 use Prim.Native.Nat.{ℕ, _+_, _-_, _≤_, _<_}
-use mathlib.Core.List.{List}
 use native.Mathlib.Omega.{arith}
 use borrow.Author.Needs.{needs}
 use lib.ListN.{length, getD, drop}
 use Rattle.program.specs.Reading.{read}
 use Rattle.program.specs.Scan.{placing}
-use Rattle.program.specs.Scanned.{opening}
+use Rattle.program.specs.Inner.Scanned.{opening}
 use Rattle.program.specs.declared.reading.Reading.the-variants.{Whole}
 use Rattle.program.proofs.RangeLaws.{tail-part}
 use Rattle.program.proofs.ReadLaws.{not-whole}
@@ -55,12 +54,6 @@ below-here c = let h = marking-below (c .before .before .before .before .before 
 fits-here : (c : tie.Else2 Inv-loop μ-loop) → (0 < c .before .before .found .given .0 .1 .0) × (c .before .before .before .before .before .before .before .loop .at + c .before .before .found .given .0 .1 .0 ≤ length (c .before .before .before .before .before .before .before .before .before .before .before .before .before .args .table .now))
 fits-here c = marking-fits (c .before .before .before .before .before .before .before .loop .inv) (told-here (c .before)) (c .if2 .left)
 
-opening-requires : tie.Need-opening-requires Inv-loop μ-loop
-opening-requires c κs = search needs
-
-unmarked-requires : tie.Need-unmarked-requires Inv-loop μ-loop
-unmarked-requires c κs = search needs
-
 returns : tie.Need-returns Inv-loop μ-loop
 returns c =
     let bad : opening (c .before .before .before .before .args .table .now) ≡ 0 → ⊥ = (λ e. c .before .if1 .taken (c .before .before .opening .ensures ∙ e)) in
@@ -69,50 +62,14 @@ returns c =
 shared-slice-read-bodies : tie.Need-shared-slice-read-bodies Inv-loop μ-loop
 shared-slice-read-bodies c = let o = opened-here c .least in omega arith
 
-unmarked-requires-2 : tie.Need-unmarked-requires-2 Inv-loop μ-loop
-unmarked-requires-2 c κs = search needs
-
 loop-holds : tie.Need-loop-holds Inv-loop μ-loop
 loop-holds c = subst (Marking (c .before .before .before .before .before .args .table .now) (getD (c .before .before .before .before .before .args .table .now) 0 0) 0 1 0) (sym (c .unmarked2 .ensures)) (marking-start (c .before .before .before .before .before .args .table .now) (open-here (c .before)))
-
-sub-read : tie.Need-sub-read Inv-loop μ-loop
-sub-read c = search needs
-
-part-read-start : tie.Need-part-read-start Inv-loop μ-loop
-part-read-start c = search needs
-
-part-read-end : tie.Need-part-read-end Inv-loop μ-loop
-part-read-end c = search needs
-
-read-requires : tie.Need-read-requires Inv-loop μ-loop
-read-requires c κs = search needs
-
-enum-known-found : tie.Need-enum-known-found Inv-loop μ-loop
-enum-known-found c = search needs
-
-unmarked-requires-3 : tie.Need-unmarked-requires-3 Inv-loop μ-loop
-unmarked-requires-3 c κs = search needs
 
 returns-2 : tie.Need-returns-2 Inv-loop μ-loop
 returns-2 c = c .unmarked3 .ensures ∙ places-none (c .before .before .before .before .before .before .before .before .before .before .before .args .table .now) (marking-stop (c .before .before .before .before .before .loop .inv) (c .before .before .read .result) (read-here (c .before .before)) (not-whole (c .before .before .read .result) (c .before .match .keys2)) (c .before .before .before .before .loop-test .taken))
 
-unmarked-requires-4 : tie.Need-unmarked-requires-4 Inv-loop μ-loop
-unmarked-requires-4 c κs = search needs
-
 returns-3 : tie.Need-returns-3 Inv-loop μ-loop
 returns-3 c = c .unmarked4 .ensures ∙ places-none (c .before .before .before .before .before .before .before .before .before .before .before .before .before .before .args .table .now) (marking-past (c .before .before .before .before .before .before .before .before .loop .inv) (told-here (c .before .before)) (c .before .if2 .taken))
-
-wide-requires : tie.Need-wide-requires Inv-loop μ-loop
-wide-requires c κs = search needs
-
-wide-requires-2 : tie.Need-wide-requires-2 Inv-loop μ-loop
-wide-requires-2 c κs = search needs
-
-placing-requires : tie.Need-placing-requires Inv-loop μ-loop
-placing-requires c κs = search needs
-
-unmarked-requires-5 : tie.Need-unmarked-requires-5 Inv-loop μ-loop
-unmarked-requires-5 c κs = search needs
 
 returns-4 : tie.Need-returns-4 Inv-loop μ-loop
 returns-4 c = c .unmarked5 .ensures ∙ places-none (c .before .before .before .before .before .before .before .before .before .before .before .before .before .before .before .before .before .before .args .table .now) (marking-wrong (c .before .before .before .before .before .before .before .before .before .before .before .before .loop .inv) (told-here (c .before .before .before .before .before .before)) (c .before .before .before .before .before .if2 .left) (λ e. c .before .if3 .taken (placing-here (c .before .before) ∙ e)))
@@ -129,9 +86,6 @@ add-at c = let f = fits-here (c .before .before .before .before .before) in omeg
 body-after-requires : tie.Need-body-after-requires Inv-loop μ-loop
 body-after-requires c κs = below-here (c .before .before .before .before .before)
 
-left-after-requires : tie.Need-left-after-requires Inv-loop μ-loop
-left-after-requires c κs = search needs
-
 loop-less : tie.Need-loop-less Inv-loop μ-loop
 loop-less c = let f = fits-here (c .before .before .before .before .before .before .before) in omega arith
 
@@ -143,45 +97,15 @@ loop-again c =
 returns-5 : tie.Need-returns-5 Inv-loop μ-loop
 returns-5 c = marking-all (c .before .before .loop .inv) (c .before .loop-test .left) (c .if4 .taken)
 
-unmarked-requires-6 : tie.Need-unmarked-requires-6 Inv-loop μ-loop
-unmarked-requires-6 c κs = search needs
-
 returns-6 : tie.Need-returns-6 Inv-loop μ-loop
 returns-6 c = c .unmarked6 .ensures ∙ places-none (c .before .before .before .before .before .before .before .before .before .args .table .now) (marking-short (c .before .before .before .loop .inv) (c .before .before .loop-test .left) (c .before .if4 .left))
 
 pub places-spec : {M : Type 1} → statement M
 places-spec =
     tie.close
-    (tie.spec
-    Inv-loop
-    μ-loop
-    opening-requires
-    unmarked-requires
-    returns
-    shared-slice-read-bodies
-    unmarked-requires-2
-    loop-holds
-    sub-read
-    part-read-start
-    part-read-end
-    read-requires
-    enum-known-found
-    unmarked-requires-3
-    returns-2
-    unmarked-requires-4
-    returns-3
-    wide-requires
-    wide-requires-2
-    placing-requires
-    unmarked-requires-5
-    returns-4
-    mark-requires
-    array-write-marks
-    add-at
-    body-after-requires
-    left-after-requires
-    loop-less
-    loop-again
-    returns-5
-    unmarked-requires-6
-    returns-6)
+    (tie.spec Inv-loop μ-loop (λ opening-requires κs. search needs) (λ unmarked-requires κs. search needs) returns shared-slice-read-bodies
+    (λ unmarked-requires-2 κs. search needs) loop-holds (λ sub-read. search needs) (λ part-read-start. search needs) (λ part-read-end. search needs)
+    (λ read-requires κs. search needs) (λ enum-known-found. search needs) (λ unmarked-requires-3 κs. search needs) returns-2
+    (λ unmarked-requires-4 κs. search needs) returns-3 (λ wide-requires κs. search needs) (λ wide-requires-2 κs. search needs)
+    (λ placing-requires κs. search needs) (λ unmarked-requires-5 κs. search needs) returns-4 mark-requires array-write-marks add-at body-after-requires
+    (λ left-after-requires κs. search needs) loop-less loop-again returns-5 (λ unmarked-requires-6 κs. search needs) returns-6)

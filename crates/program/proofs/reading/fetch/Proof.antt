@@ -1,7 +1,7 @@
 -- Past the end nothing can be read.
 use Prim.Native.Nat.{_≤_}
-use mathlib.Core.Path.{_≡_, refl, sym, ap, _∙_}
-use lib.ListN.{length, drop, drop-of-length-le}
+use mathlib.Core.Path.{sym, ap, _∙_}
+use lib.ListN.{length, drop-of-length-le}
 use native.Mathlib.Omega.{arith}
 use Rattle.program.specs.Reading.{read}
 use Rattle.program.proofs.RangeLaws.{tail-part}
@@ -11,18 +11,6 @@ use Rattle.program.proofs.reading.fetch.Tie as tie
 use Rattle.program.proofs.reading.fetch.Reads as reads
 use Rattle.program.proofs.reading.fetch.Lts as lts
 use Rattle.program.proofs.reading.read.Reads as read-reads
-
-sub-read : tie.Need-sub-read
-sub-read c = search needs
-
-part-read-start : tie.Need-part-read-start
-part-read-start c = search needs
-
-part-read-end : tie.Need-part-read-end
-part-read-end c = search needs
-
-read-requires : tie.Need-read-requires
-read-requires c κs = search needs
 
 returns : tie.Need-returns
 returns c = c .read .ensures ∙ ap read (tail-part (c .before .before .before .before .args .code .now) (c .before .before .before .before .args .offset))
@@ -35,4 +23,5 @@ returns-2 c =
 
 pub fetch-spec : {M : Type 1} → statement M
 fetch-spec =
-    tie.close (tie.spec sub-read part-read-start part-read-end read-requires returns returns-2)
+    tie.close
+    (tie.spec (λ sub-read. search needs) (λ part-read-start. search needs) (λ part-read-end. search needs) (λ read-requires κs. search needs) returns returns-2)

@@ -1,15 +1,16 @@
 -- The scan from the place reached is the whole scan of the body: the loop goes on as the definition does.
 use mathlib.Core.Path.{_≡_, refl, sym, ap, _∙_}
-use Prim.Native.Nat.{ℕ, _+_, _-_, _≤_, _<_}
+use Prim.Native.Nat.{_+_, _-_, _≤_, _<_}
 use native.Mathlib.Omega.{arith}
 use borrow.Author.Needs.{needs}
 use lib.ListN.{length, drop, length-drop}
 use lib.Seq.{drop-drop}
 use Rattle.program.specs.Reading.{read, readings}
-use Rattle.program.specs.Scanned.{extentOf}
+use Rattle.program.specs.Inner.Scanned.{extentOf}
 use Rattle.program.specs.declared.reading.Reading.the-variants.{Whole}
 use Rattle.program.proofs.RangeLaws.{tail-part}
-use Rattle.program.proofs.ReadLaws.{known, not-whole}
+use Rattle.program.proofs.ShapeReading.{known}
+use Rattle.program.proofs.ReadLaws.{not-whole}
 use Rattle.program.proofs.ScanLaws.{extent-refused, extent-end, extent-on, extent-stop}
 use Rattle.program.proofs.scan.body_extent.Statement.{statement}
 use Rattle.program.proofs.scan.body_extent.Tie as tie
@@ -36,51 +37,24 @@ told-here c = sym (c .before .found .given .1) ∙ read-here (c .before .before 
 
 fits-here : (c : tie.After-known-told Inv-loop μ-loop) → (0 < c .before .found .given .0 .1 .0) × (c .before .before .before .before .before .loop .at + c .before .found .given .0 .1 .0 ≤ length (c .before .before .before .before .before .before .before .args .code .now))
 fits-here c =
-    let k = known _ _ _ (told-here c) in
+    let k = known _ (sym (told-here c)) in
     let h = simp length-drop at (k .inside) in
     (k .some, omega arith)
 
 loop-holds : tie.Need-loop-holds Inv-loop μ-loop
 loop-holds c = (omega arith, refl)
 
-sub-read : tie.Need-sub-read Inv-loop μ-loop
-sub-read c = search needs
-
-part-read-start : tie.Need-part-read-start Inv-loop μ-loop
-part-read-start c = search needs
-
-part-read-end : tie.Need-part-read-end Inv-loop μ-loop
-part-read-end c = search needs
-
-read-requires : tie.Need-read-requires Inv-loop μ-loop
-read-requires c κs = search needs
-
-enum-known-found : tie.Need-enum-known-found Inv-loop μ-loop
-enum-known-found c = search needs
-
-refusal-requires : tie.Need-refusal-requires Inv-loop μ-loop
-refusal-requires c κs = search needs
-
 returns : tie.Need-returns Inv-loop μ-loop
 returns c = rw (c .refusal .ensures) (sym (extent-stop (c .before .before .before .before .before .before .args .bodies) (c .before .before .before .before .before .before .args .body) (c .before .before .before .before .loop .left) (c .before .before .before .before .loop .at) (drop (c .before .before .before .before .loop .at) (c .before .before .before .before .before .before .args .code .now)) (c .before .before .read .result) (read-here (c .before .before)) (not-whole (c .before .before .read .result) (c .before .match .keys2))) ∙ c .before .before .before .before .loop .inv .1)
 
-placing-requires : tie.Need-placing-requires Inv-loop μ-loop
-placing-requires c κs = search needs
-
 returns-2 : tie.Need-returns-2 Inv-loop μ-loop
 returns-2 c = rw (c .before .placing .ensures) (sym (extent-refused (c .before .before .before .before .before .before .before .before .before .args .bodies) (c .before .before .before .before .before .before .before .before .before .args .body) (c .before .before .before .before .before .before .before .loop .left) (c .before .before .before .before .before .before .before .loop .at) (drop (c .before .before .before .before .before .before .before .loop .at) (c .before .before .before .before .before .before .before .before .before .args .code .now)) (c .before .before .before .found .given .0 .0) (c .before .before .before .found .given .0 .1 .0) (told-here (c .before .before)) (λ e. c .if1 .taken (c .before .placing .ensures ∙ e))) ∙ c .before .before .before .before .before .before .before .loop .inv .1)
-
-is-end-requires : tie.Need-is-end-requires Inv-loop μ-loop
-is-end-requires c κs = search needs
 
 add-t17 : tie.Need-add-t17 Inv-loop μ-loop
 add-t17 c = let f = fits-here (c .before .before .before .before) in omega arith
 
 returns-3 : tie.Need-returns-3 Inv-loop μ-loop
 returns-3 c = sym (extent-end (c .before .before .before .before .before .before .before .before .before .before .before .args .bodies) (c .before .before .before .before .before .before .before .before .before .before .before .args .body) (c .before .before .before .before .before .before .before .before .before .loop .left) (c .before .before .before .before .before .before .before .before .before .loop .at) (drop (c .before .before .before .before .before .before .before .before .before .loop .at) (c .before .before .before .before .before .before .before .before .before .before .before .args .code .now)) (c .before .before .before .before .before .found .given .0 .0) (c .before .before .before .before .before .found .given .0 .1 .0) (told-here (c .before .before .before .before)) (sym (c .before .before .before .placing .ensures) ∙ c .before .before .if1 .left) (sym (c .before .is-end .ensures) ∙ c .if2 .taken)) ∙ c .before .before .before .before .before .before .before .before .before .loop .inv .1
-
-left-after-requires : tie.Need-left-after-requires Inv-loop μ-loop
-left-after-requires c κs = search needs
 
 add-at : tie.Need-add-at Inv-loop μ-loop
 add-at c = let f = fits-here (c .before .before .before .before .before) in omega arith
@@ -94,23 +68,6 @@ loop-again c = (fits-here (c .before .before .before .before .before) .1, rw (c 
 pub body-extent-spec : {M : Type 1} → statement M
 body-extent-spec =
     tie.close
-    (tie.spec
-    Inv-loop
-    μ-loop
-    loop-holds
-    sub-read
-    part-read-start
-    part-read-end
-    read-requires
-    enum-known-found
-    refusal-requires
-    returns
-    placing-requires
-    returns-2
-    is-end-requires
-    add-t17
-    returns-3
-    left-after-requires
-    add-at
-    loop-less
-    loop-again)
+    (tie.spec Inv-loop μ-loop loop-holds (λ sub-read. search needs) (λ part-read-start. search needs) (λ part-read-end. search needs)
+    (λ read-requires κs. search needs) (λ enum-known-found. search needs) (λ refusal-requires κs. search needs) returns (λ placing-requires κs. search needs)
+    returns-2 (λ is-end-requires κs. search needs) add-t17 returns-3 (λ left-after-requires κs. search needs) add-at loop-less loop-again)

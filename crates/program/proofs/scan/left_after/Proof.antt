@@ -1,7 +1,5 @@
 -- The cases are those of the definition.
-use mathlib.Core.Path.{_≡_, refl, sym, ap, _∙_}
-use Prim.Native.Nat.{ℕ, zero, suc, _-_}
-use native.Mathlib.Omega.{arith}
+use mathlib.Core.Path.{_∙_}
 use Rattle.program.specs.Scan.{leftAfter}
 use Rattle.program.proofs.ScanLaws.{left-more}
 use borrow.Author.Needs.{needs}
@@ -11,12 +9,6 @@ use Rattle.program.proofs.scan.left_after.Reads as reads
 use Rattle.program.proofs.scan.left_after.Lts as lts
 use Rattle.program.proofs.command.held.Reads as held-reads
 
-held-requires : tie.Need-held-requires
-held-requires c κs = search needs
-
-sub-result : tie.Need-sub-result
-sub-result c = search needs
-
 returns : tie.Need-returns
 unfolding leftAfter
 returns c = c .held .ensures .0 ∙ rw (c .before .if1 .taken)
@@ -25,4 +17,5 @@ returns-2 : tie.Need-returns-2
 returns-2 c = left-more (c .before .args .left) (c .before .args .command) (c .if1 .left)
 
 pub left-after-spec : {M : Type 1} → statement M
-left-after-spec = tie.close (tie.spec held-requires sub-result returns returns-2)
+left-after-spec = tie.close
+    (tie.spec (λ held-requires κs. search needs) (λ sub-result. search needs) returns returns-2)

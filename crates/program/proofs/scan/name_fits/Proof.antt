@@ -1,5 +1,4 @@
 -- The tests are those of the definition.
-use mathlib.Core.Path.{_≡_, refl, sym, ap, _∙_}
 use borrow.Author.Tests.{lt-ltb, le-ltb}
 use Rattle.program.specs.Scan.{nameFits}
 use borrow.Author.Needs.{needs}
@@ -9,12 +8,6 @@ use Rattle.program.proofs.scan.name_fits.Reads as reads
 use Rattle.program.proofs.scan.name_fits.Lts as lts
 use Rattle.program.proofs.command.named.Reads as named-reads
 use Rattle.program.proofs.command.names.Reads as names-reads
-
-names-requires : tie.Need-names-requires
-names-requires c κs = search needs
-
-named-requires : tie.Need-named-requires
-named-requires c κs = search needs
 
 returns : tie.Need-returns
 unfolding nameFits
@@ -29,4 +22,5 @@ unfolding nameFits
 returns-3 c = rw (← c .before .names .ensures, c .if1 .left)
 
 pub name-fits-spec : {M : Type 1} → statement M
-name-fits-spec = tie.close (tie.spec names-requires named-requires returns returns-2 returns-3)
+name-fits-spec = tie.close
+    (tie.spec (λ names-requires κs. search needs) (λ named-requires κs. search needs) returns returns-2 returns-3)

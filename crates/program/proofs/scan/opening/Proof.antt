@@ -1,9 +1,7 @@
 -- The four tests are those of the definition.
-use mathlib.Core.Path.{_≡_, refl, sym, ap, _∙_}
-use native.Mathlib.Omega.{arith}
 use borrow.Author.Tests.{lt-leb, le-leb}
 use Rattle.program.specs.Scan.{fitsLength, fitsBodies}
-use Rattle.program.specs.Scanned.{opening}
+use Rattle.program.specs.Inner.Scanned.{opening}
 use borrow.Author.Needs.{needs}
 use Rattle.program.proofs.scan.opening.Statement.{statement}
 use Rattle.program.proofs.scan.opening.Tie as tie
@@ -18,12 +16,6 @@ returns c = rw (lt-leb _ _ (c .if1 .taken))
 returns-2 : tie.Need-returns-2
 unfolding opening fitsLength
 returns-2 c = rw (le-leb _ _ (c .before .if1 .left), lt-leb _ _ (c .if2 .taken))
-
-shared-slice-read-wide : tie.Need-shared-slice-read-wide
-shared-slice-read-wide c = search needs
-
-wide-requires : tie.Need-wide-requires
-wide-requires c κs = search needs
 
 returns-3 : tie.Need-returns-3
 unfolding opening fitsLength fitsBodies
@@ -40,4 +32,4 @@ returns-5 c = rw (le-leb _ _ (c .before .before .before .before .before .if1 .le
 pub opening-spec : {M : Type 1} → statement M
 opening-spec =
     tie.close
-    (tie.spec returns returns-2 shared-slice-read-wide wide-requires returns-3 returns-4 returns-5)
+    (tie.spec returns returns-2 (λ shared-slice-read-wide. search needs) (λ wide-requires κs. search needs) returns-3 returns-4 returns-5)

@@ -1,5 +1,4 @@
 -- The tests are those of the definition.
-use mathlib.Core.Path.{_≡_, refl, sym, ap, _∙_}
 use borrow.Author.Tests.{eq-eqb, ne-eqb, not-true, not-false}
 use Rattle.program.specs.Scan.{placing, atomFits}
 use borrow.Author.Needs.{needs}
@@ -10,9 +9,6 @@ use Rattle.program.proofs.scan.placing.Lts as lts
 use Rattle.program.proofs.command.uses_cell.Reads as uses-cell-reads
 use Rattle.program.proofs.scan.name_fits.Reads as name-fits-reads
 
-name-fits-requires : tie.Need-name-fits-requires
-name-fits-requires c κs = search needs
-
 returns : tie.Need-returns
 unfolding placing
 returns c = rw (← c .before .name-fits .ensures, not-true (c .before .name-fits .result) (c .if1 .taken))
@@ -20,9 +16,6 @@ returns c = rw (← c .before .name-fits .ensures, not-true (c .before .name-fit
 returns-2 : tie.Need-returns-2
 unfolding placing atomFits
 returns-2 c = rw (← c .before .before .name-fits .ensures, not-false (c .before .before .name-fits .result) (c .before .if1 .left), eq-eqb _ _ (c .if2 .taken))
-
-uses-cell-requires : tie.Need-uses-cell-requires
-uses-cell-requires c κs = search needs
 
 returns-3 : tie.Need-returns-3
 unfolding placing atomFits
@@ -35,4 +28,4 @@ returns-4 c = rw (← c .before .before .before .before .name-fits .ensures, not
 pub placing-spec : {M : Type 1} → statement M
 placing-spec =
     tie.close
-    (tie.spec name-fits-requires returns returns-2 uses-cell-requires returns-3 returns-4)
+    (tie.spec (λ name-fits-requires κs. search needs) returns returns-2 (λ uses-cell-requires κs. search needs) returns-3 returns-4)

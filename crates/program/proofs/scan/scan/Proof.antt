@@ -1,12 +1,12 @@
 -- Body by body the scan goes on as the table's numbers do, and each start is noted.
-use mathlib.Core.Path.{_≡_, refl, sym, ap, _∙_}
-use Prim.Native.Nat.{ℕ, _+_, _-_, _≤_, _<_}
+use mathlib.Core.Path.{_≡_, sym, ap, _∙_}
+use Prim.Native.Nat.{ℕ, _+_, _-_, _≤_}
 use mathlib.Core.List.{List}
 use native.Mathlib.Omega.{arith}
 use borrow.Author.Needs.{needs}
-use lib.ListN.{length, getD, drop, set}
+use lib.ListN.{drop, set}
 use Rattle.program.specs.Reading.{readings}
-use Rattle.program.specs.Scanned.{opening, extentOf, refusedBy, numberIn}
+use Rattle.program.specs.Inner.Scanned.{opening, extentOf, numberIn}
 use Rattle.program.proofs.RangeLaws.{tail-part}
 use Rattle.program.proofs.LayoutLaws.{opened, shut, scanned-refused, scanned-whole, Laying, laying-start, laying-refused, laying-on, laying-more, laying-all}
 use Rattle.program.proofs.scan.scan.Statement.{statement}
@@ -39,20 +39,11 @@ extent-here c = c .body-extent .ensures ∙ ap (λ (s : List ℕ). extentOf (c .
 found-here : (c : tie.After-known-told Inv-loop μ-loop) → Laying (c .before .before .before .before .before .before .before .before .before .before .before .before .args .table .now) (c .before .before .before .before .before .before .before .wide .result) (c .before .before .before .before .before .before .loop .body + 1) (c .before .before .before .before .before .before .loop .at + c .before .found .given .0 .0) (set (c .before .before .before .before .before .before .loop .starts) (c .before .before .before .before .before .before .loop .body) (c .before .before .before .before .before .before .loop .at))
 found-here c = laying-on (c .before .before .before .before .before .before .loop .inv) (c .before .before .before .before .before .loop-test .taken) (few-here (c .before .before .before .before .before .before .before)) (sym (c .before .found .given .1) ∙ extent-here (c .before .before .before))
 
-opening-requires : tie.Need-opening-requires Inv-loop μ-loop
-opening-requires c κs = search needs
-
-refused-requires : tie.Need-refused-requires Inv-loop μ-loop
-refused-requires c κs = search needs
-
 returns : tie.Need-returns Inv-loop μ-loop
 returns c = c .refused .ensures ∙ scanned-refused (c .before .before .before .before .args .table .now) (shut (c .before .before .before .before .args .table .now) (λ e. c .before .if1 .taken (c .before .before .opening .ensures ∙ e)) ∙ sym (c .before .before .opening .ensures)) (c .before .if1 .taken)
 
 shared-slice-read-wide : tie.Need-shared-slice-read-wide Inv-loop μ-loop
 shared-slice-read-wide c = let o = opened (c .before .before .before .before .args .table .now) (sym (c .before .before .opening .ensures) ∙ c .before .if1 .left) .least in omega arith
-
-wide-requires : tie.Need-wide-requires Inv-loop μ-loop
-wide-requires c κs = search needs
 
 loop-holds : tie.Need-loop-holds Inv-loop μ-loop
 loop-holds c = rw (c .wide .ensures .0) (laying-start (c .before .before .before .before .before .args .table .now) (open-here c))
@@ -62,24 +53,6 @@ sub-body-extent c = c .before .loop .inv .inside
 
 part-body-extent-start : tie.Need-part-body-extent-start Inv-loop μ-loop
 part-body-extent-start c = c .before .loop .inv .inside
-
-part-body-extent-end : tie.Need-part-body-extent-end Inv-loop μ-loop
-part-body-extent-end c = search needs
-
-body-extent-requires : tie.Need-body-extent-requires Inv-loop μ-loop
-body-extent-requires c κs = search needs
-
-enum-known-found : tie.Need-enum-known-found Inv-loop μ-loop
-enum-known-found c = search needs
-
-enum-told : tie.Need-enum-told Inv-loop μ-loop
-enum-told c = search needs
-
-number-in-requires : tie.Need-number-in-requires Inv-loop μ-loop
-number-in-requires c κs = search needs
-
-refused-requires-2 : tie.Need-refused-requires-2 Inv-loop μ-loop
-refused-requires-2 c κs = search needs
 
 returns-2 : tie.Need-returns-2 Inv-loop μ-loop
 returns-2 c =
@@ -99,14 +72,8 @@ add-at c = let f = found-here c .inside in omega arith
 add-body : tie.Need-add-body Inv-loop μ-loop
 add-body c = let f = few-here (c .before .before .before .before .before .before .before) in omega arith
 
-loop-less : tie.Need-loop-less Inv-loop μ-loop
-loop-less c = omega arith
-
 loop-again : tie.Need-loop-again Inv-loop μ-loop
 loop-again c = found-here c
-
-refused-requires-3 : tie.Need-refused-requires-3 Inv-loop μ-loop
-refused-requires-3 c κs = search needs
 
 returns-3 : tie.Need-returns-3 Inv-loop μ-loop
 returns-3 c = c .refused3 .ensures ∙ scanned-refused (c .before .before .before .before .before .before .before .before .before .args .table .now) (laying-more (c .before .before .before .loop .inv) (c .before .before .loop-test .left) (c .before .if2 .taken)) (λ e. omega arith)
@@ -119,30 +86,8 @@ returns-4 c =
 pub scan-spec : {M : Type 1} → statement M
 scan-spec =
     tie.close
-    (tie.spec
-    Inv-loop
-    μ-loop
-    opening-requires
-    refused-requires
-    returns
-    shared-slice-read-wide
-    wide-requires
-    loop-holds
-    sub-body-extent
-    part-body-extent-start
-    part-body-extent-end
-    body-extent-requires
-    enum-known-found
-    enum-told
-    number-in-requires
-    refused-requires-2
-    returns-2
-    mul-starts
-    array-write-starts
-    add-at
-    add-body
-    loop-less
-    loop-again
-    refused-requires-3
-    returns-3
-    returns-4)
+    (tie.spec Inv-loop μ-loop (λ opening-requires κs. search needs) (λ refused-requires κs. search needs) returns shared-slice-read-wide
+    (λ wide-requires κs. search needs) loop-holds sub-body-extent part-body-extent-start (λ part-body-extent-end. search needs)
+    (λ body-extent-requires κs. search needs) (λ enum-known-found. search needs) (λ enum-told. search needs) (λ number-in-requires κs. search needs)
+    (λ refused-requires-2 κs. search needs) returns-2 mul-starts array-write-starts add-at add-body (λ loop-less. omega arith) loop-again
+    (λ refused-requires-3 κs. search needs) returns-3 returns-4)

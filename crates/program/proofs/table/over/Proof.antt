@@ -1,35 +1,23 @@
 -- The four tests are those of the definition.
 use borrow.Author.Tests.{lt-ltb, le-ltb}
-use Rattle.program.specs.Counting.{overCounts}
+use Rattle.program.specs.Inner.Counting.{overCounts}
 use borrow.Author.Needs.{needs}
 use Rattle.program.proofs.table.over.Statement.{statement}
 use Rattle.program.proofs.table.over.Tie as tie
 use Rattle.program.proofs.table.over.Reads as reads
 use Rattle.program.proofs.table.over.Lts as lts
 
-array-read-if1 : tie.Need-array-read-if1
-array-read-if1 c = search needs
-
 returns : tie.Need-returns
 unfolding overCounts
 returns c = rw (lt-ltb _ _ (c .if1 .taken))
-
-array-read-if2 : tie.Need-array-read-if2
-array-read-if2 c = search needs
 
 returns-2 : tie.Need-returns-2
 unfolding overCounts
 returns-2 c = rw (le-ltb _ _ (c .before .if1 .left), lt-ltb _ _ (c .if2 .taken))
 
-array-read-if3 : tie.Need-array-read-if3
-array-read-if3 c = search needs
-
 returns-3 : tie.Need-returns-3
 unfolding overCounts
 returns-3 c = rw (le-ltb _ _ (c .before .before .if1 .left), le-ltb _ _ (c .before .if2 .left), lt-ltb _ _ (c .if3 .taken))
-
-array-read-if4 : tie.Need-array-read-if4
-array-read-if4 c = search needs
 
 returns-4 : tie.Need-returns-4
 unfolding overCounts
@@ -42,13 +30,5 @@ returns-5 c = rw (le-ltb _ _ (c .before .before .before .if1 .left), le-ltb _ _ 
 pub over-spec : {M : Type 1} → statement M
 over-spec =
     tie.close
-    (tie.spec
-    array-read-if1
-    returns
-    array-read-if2
-    returns-2
-    array-read-if3
-    returns-3
-    array-read-if4
-    returns-4
-    returns-5)
+    (tie.spec (λ array-read-if1. search needs) returns (λ array-read-if2. search needs) returns-2 (λ array-read-if3. search needs) returns-3
+    (λ array-read-if4. search needs) returns-4 returns-5)

@@ -1,14 +1,12 @@
 -- What the code answers on its way to the number of a table: of its first two bytes, of one body, and of the whole scan.
 use Prim.Native.Nat.{ℕ, _+_}
 use mathlib.Core.List.{List, [], _∷_}
-use mathlib.Core.Bool.{Bool, true, false, cond}
-use lib.ListN.{length, getD}
+use mathlib.Core.Bool.{cond}
 use lib.Dec.{eqb}
 use Rattle.program.specs.Command.{isEnd}
 use Rattle.program.specs.Scan.{placing, leftAfter, fitsLength, fitsBodies, scan, layoutOf, noLayout}
 use Rattle.program.specs.declared.reading.Reading.{Reading}
 use Rattle.program.specs.declared.reading.Reading.the-variants.{Whole, Unknown, Cut, Outside}
-use Rattle.program.specs.declared.scan.Layout.{Layout}
 use Rattle.program.specs.declared.scan.Extent.{Extent}
 use Rattle.program.specs.declared.scan.Extent.the-variants.{Refused, Ended}
 use Rattle.program.specs.declared.scan.Scanned.{Scanned}

@@ -2,13 +2,13 @@
 use Prim.Native.Nat.{ℕ, _+_, _*_, _≤_, _<_, min}
 use mathlib.Core.Path.{_≡_}
 use mathlib.Core.Logic.{_⊎_}
-use mathlib.Core.List.{List, [], _∷_}
+use mathlib.Core.List.{List, []}
 use mathlib.Core.Bool.{cond}
 use lib.Dec.{ltb}
-use lib.ListN.{length, getD, drop}
+use lib.ListN.{getD, drop}
 use Rattle.program.specs.Bodies.{programOf}
 use Rattle.program.specs.Count.{tally}
-use Rattle.program.specs.Coding.{weight}
+use Rattle.program.specs.Inner.Coding.{weight}
 use Rattle.program.specs.Scan.{scan, layoutOf}
 use Rattle.program.specs.declared.command.Command.{Command}
 use Rattle.program.specs.declared.scan.Layout.{Layout}

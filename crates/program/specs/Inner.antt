@@ -1,0 +1,5 @@
+-- What the functions of this crate promise each other on the way to a table, its places and its commands. No contract of a function that the crates above call
+-- cites it: a reader need not believe it.
+pub mod Coding
+pub mod Scanned
+pub mod Counting
