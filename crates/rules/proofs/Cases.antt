@@ -1,7 +1,7 @@
 -- The cases hold: computed from the rules.
 use mathlib.Core.Path.{_≡_, refl}
 use mathlib.Core.Bool.{Bool, true, _&&_}
-use Rattle.program.specs.Command.{rows, rowAt, opcode, operandsOf, commandOf, rowOf, width, names, named, times, held, isEnd, usesCell}
+use Rattle.program.specs.Command.{rows, rowAt, commandOf, rowOf, width, names, named, times, held, isEnd, usesCell}
 use Rattle.program.specs.Reading.{read, readingsAfter, readings, wholes, commandsOf}
 use Rattle.program.specs.Bodies.{firstBody, afterEnd, locate, bodiesOf, programOf, from, isPlace}
 use Rattle.program.specs.Scan.{nameFits, atomFits, placing, leftAfter, bodyAfter, verdict, fitsLength, fitsBodies, scan}

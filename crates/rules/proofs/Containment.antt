@@ -25,7 +25,7 @@ use Rattle.rules.specs.Effects.{one, Effect, nobody, child, applied, Spa
 use Rattle.rules.proofs.Tests.{true-false}
 use Rattle.rules.proofs.Search.{chain-same, chain-cases, chain-on, chain-above}
 use Rattle.rules.proofs.Shapes.{OfChild, of-child, born, Kind}
-use Rattle.rules.proofs.Applied.{Bounded, self, Fits, act-self, act-old, each, act-child, who, Who, elder, newborn}
+use Rattle.rules.proofs.Applied.{Bounded, Fits, act-self, act-old, each, act-child, Now, self, newborn, other, now}
 use Rattle.rules.proofs.Holders.{begun, Became, unchanged, vacated, quieted, held-quiesced, raised, held-revived, Turned, lent-held, lends}
 use Rattle.rules.proofs.Tree.{Open, inside-first, open-none}
 
@@ -69,6 +69,10 @@ pub record Orderly (p : Program) (s : State) (i : ℕ) (e : Effect) : Type 0 whe
   pub opening : Opening p s (act s i) e
 
 module _ (p : Program) (s : State) (i : ℕ) (e : Effect) (n : Nested p s) (o : Orderly p s i e) where
+  -- What each entry is after the effect.
+  entry : (x : ℕ) → Now s i e x
+  entry x = now s (n .bounded) i (o .present) e (o .fits) x
+
   -- Who was there has the same spawner.
   links : (y : ℕ) → y < s .activities → act s y .spawner ≡ act (applied s i e) y .spawner
   links y l = go (ℕ-discrete y i)
@@ -212,12 +216,12 @@ module _ (p : Program) (s : State) (i : ℕ) (e : Effect) (n : Nested p s) (o : 
 
   -- Of each.
   holder : (x k : ℕ) → x < applied s i e .activities → holds (act (applied s i e) x) k ≡ true → Holder x k
-  holder x k l h = go (who s i e x l)
+  holder x k l h = go (entry x)
     where
-      go : Who s i e x → Holder x k
-      go (self q) = rw q (holder-self k (rw q at h))
-      go (elder m d) = holder-old x k m d h
-      go (newborn c q f) = rw f (holder-child c q k (rw f at h))
+      go : Now s i e x → Holder x k
+      go (self q a) = rw q (holder-self k (rw q at h))
+      go (other d m a) = holder-old x k (m l) d h
+      go (newborn c q f a) = rw f (holder-child c q k (rw f at h))
 
   -- Two holders after the step, for a finish that was open or has begun now.
   core : (w j : ℕ) → w < s .activities → ended s w ≡ false → Was p s (act s w) e j → (w ≡ i → Was p s (act s i) e j) → (x k y l : ℕ)
@@ -243,26 +247,24 @@ module _ (p : Program) (s : State) (i : ℕ) (e : Effect) (n : Nested p s) (o : 
       → hold (act (applied s i e) y) l .clock ≡ hold (act (applied s i e) x) k .clock → inside (applied s i e) w j x ≡ true
       → inside (applied s i e) w j y ≡ true
   unfolding Opening
-  contained′ w j lw u m = go (who s i e w lw)
+  contained′ w j lw u m = go (entry w)
     where
-      go : Who s i e w → (x k y l : ℕ)
+      go : Now s i e w → (x k y l : ℕ)
           → x < applied s i e .activities → y < applied s i e .activities → holds (act (applied s i e) x) k ≡ true
           → holds (act (applied s i e) y) l ≡ true → hold (act (applied s i e) y) l .clock ≡ hold (act (applied s i e) x) k .clock
           → inside (applied s i e) w j x ≡ true → inside (applied s i e) w j y ≡ true
-      go (self q) =
-          let me : act (applied s i e) w ≡ e .self = rw q (act-self s (n .bounded) i (o .present) e (o .fits)) in
+      go (self q me) =
           let v : Was p s (act s i) e j = o .opening (rw me at u) j (rw me at m) in
           core w j (rw q (o .present)) (rw q (o .runs)) (subst (λ w. Was p s (act s w) e j) (sym q) v) (λ z. v)
-      go (elder l d) = let old = act-old s i e w l d in core w j l (rw old at u) (open-before (rw old at m)) (λ z. absurd (d z))
-      go (newborn c q f) =
-          absurd (its c q .none-open j (subst (λ a. Open p (a .depth) (a .frames) j) (ap (λ x. act (applied s i e) x) f ∙ is-child c q) m))
+      go (other d l old) = core w j (l lw) (rw old at u) (open-before (rw old at m)) (λ z. absurd (d z))
+      go (newborn c q f is) = absurd (its c q .none-open j (subst (λ a. Open p (a .depth) (a .frames) j) is m))
 
   -- The count of activities when an open finish began is above its owner and no greater than the activities there are.
   pub marked′ : ((w j : ℕ) → w < s .activities → ended s w ≡ false → Open p (act s w .depth) (act s w .frames) j → (w < j) × (j ≤ s .activities))
       → (w j : ℕ) → w < applied s i e .activities → ended (applied s i e) w ≡ false → Open p (act (applied s i e) w .depth) (act (applied s i e) w .frames) j
       → (w < j) × (j ≤ applied s i e .activities)
   unfolding Opening applied
-  marked′ was w j lw u m = go (who s i e w lw)
+  marked′ was w j lw u m = go (entry w)
     where
       grows : (ch : Spawned) → s .activities ≤ spawnedCount (s .activities) ch
       grows nobody = omega arith
@@ -275,13 +277,11 @@ module _ (p : Program) (s : State) (i : ℕ) (e : Effect) (n : Nested p s) (o : 
       own (open-before o′) = was i j (o .present) (o .runs) o′
       own (begun-now q z) = (omega (arith, o .present), omega arith)
 
-      go : Who s i e w → (w < j) × (j ≤ applied s i e .activities)
-      go (self q) =
-          let me : act (applied s i e) w ≡ e .self = rw q (act-self s (n .bounded) i (o .present) e (o .fits)) in
+      go : Now s i e w → (w < j) × (j ≤ applied s i e .activities)
+      go (self q me) =
           on (subst (λ w. (w < j) × (j ≤ s .activities)) (sym q) (own (o .opening (rw me at u) j (rw me at m))))
-      go (elder l d) = let old = act-old s i e w l d in on (was w j l (rw old at u) (rw old at m))
-      go (newborn c q f) =
-          absurd (its c q .none-open j (subst (λ a. Open p (a .depth) (a .frames) j) (ap (λ x. act (applied s i e) x) f ∙ is-child c q) m))
+      go (other d l old) = on (was w j (l lw) (rw old at u) (rw old at m))
+      go (newborn c q f is) = absurd (its c q .none-open j (subst (λ a. Open p (a .depth) (a .frames) j) is m))
 
 -- WHAT A COMMAND ASKS AND GIVES
 

@@ -34,7 +34,12 @@ use Rattle.rules.proofs.WellFormedStart.{start-wellFormed}
 use Rattle.rules.proofs.Shapes.{kind}
 use Rattle.rules.proofs.Applied.{steps-applied, clocks-applied}
 use Rattle.rules.proofs.Potential.{pend-ended}
-use Rattle.rules.proofs.Reached.{Reached, doing, failed, total, never-exceeds, effect-doing, effect-failed, reached-step, goes, doing-work, failed-work, stable-step, never-still}
+use Rattle.rules.proofs.Turn.{turn, doing, failed, effect-doing, effect-failed}
+use Rattle.rules.proofs.Pending.{total}
+use Rattle.rules.proofs.Reached.{Reached, never-still}
+use Rattle.rules.proofs.ReachedStep.{reached-step, doing-work, failed-work}
+use Rattle.rules.proofs.NeverExceeds.{never-exceeds}
+use Rattle.rules.proofs.Quiescence.{stable-step}
 use Rattle.rules.proofs.Start.{start-reached, start-total}
 use Rattle.rules.proofs.Calls.{takenAs, no-fault, refused-waits, start-taken}
 
@@ -189,16 +194,16 @@ module _ (l : Limits) (t : List ℕ) (w : l .work ≤ l .phase) (n : numberOf (l
       go : Call l t s i → P (step l t s i)
       go (refused r e) = subst P (sym e) (subst (λ v. A v s) (sym (keep b)) a)
       go (performed r f e) =
-          let o = goes p s i r in
-          let u = doing-work p ok (limits .activities) s (g .reached) i (o .there) (o .runs) in
-          let q = no-fault (o .runs) (kind p (envOf s) i (act s i) (at p s i .command) (at p s i .inner)) in
+          let o = turn p s i r in
+          let u = doing-work p ok (limits .activities) s (g .reached) i (o .spawned) (o .unended) in
+          let q = no-fault (o .unended) (kind p (envOf s) i (act s i) (at p s i .command) (at p s i .inner)) in
           let m = steps-applied s i (doing p s i) in
           subst P (sym e)
           (subst (λ v. A (b || v) (applied s i (doing p s i))) (sym q)
           (subst (λ v. A v (applied s i (doing p s i))) (sym (keep b)) (same b (applied s i (doing p s i)) (omega arith) a)))
       go (faulted r f e) =
-          let o = goes p s i r in
-          let u = failed-work p ok (limits .activities) s (g .reached) i (o .there) (o .runs) f in
+          let o = turn p s i r in
+          let u = failed-work p ok (limits .activities) s (g .reached) i (o .spawned) (o .unended) f in
           let m = steps-applied s i (failed p s i) in
           subst P (sym e) (less b (applied s i (failed p s i)) (omega arith) a)
 
@@ -295,7 +300,7 @@ module _ (l : Limits) (t : List ℕ) (w : l .work ≤ l .phase) (n : numberOf (l
     over e = ready-set ∙ bits-zero 64 (canStep p s) (λ i m. ne-eqb _ _ (stopped-at i))
       where
         stopped-at : (i : ℕ) → refusal p s i ≡ 0 → ⊥
-        stopped-at i r = let o = goes p s i r in true-false _ (allBelow-at (s .activities) (ended s) e i (o .there)) (o .runs)
+        stopped-at i r = let o = turn p s i r in true-false _ (allBelow-at (s .activities) (ended s) e i (o .spawned)) (o .unended)
 
     -- Who is in it can step.
     steps : (i : ℕ) → bit (ready l t s .set) i ≡ true → isAccepted (step l t s i .answer) ≡ true

@@ -10,7 +10,6 @@ use mathlib.Core.Path.{_≡_, refl, sym, ap, _∙_, subst}
 use mathlib.Core.Logic.{_⊎_, inl, inr}
 use lib.Dec.{ltb, leb, eqb}
 use borrow.Author.Tests.{ltb-true, lt-ltb, le-leb, lt-leb, eq-eqb, ne-eqb}
-use Rattle.program.specs.Command.{opcode}
 use Rattle.program.specs.Bodies.{Program, programOf}
 use Rattle.program.specs.Table.{numberOf}
 use Rattle.program.proofs.Shape.{Accepted}
@@ -28,9 +27,11 @@ use Rattle.rules.proofs.Search.{chain-step}
 use Rattle.rules.proofs.Sized.{Sized}
 use Rattle.rules.proofs.WellFormedFacts.{Facts, facts}
 use Rattle.rules.proofs.WellFormedShape.{born, Shape}
-use Rattle.rules.proofs.WellFormedApply.{after, Turn, turn, Room, room, step-shape, Now, self, newborn, other}
+use Rattle.rules.proofs.Turn.{Turn, turn, after}
+use Rattle.rules.proofs.Applied.{Now, self, newborn, other}
+use Rattle.rules.proofs.WellFormedApply.{Room, room, step-shape}
 use Rattle.rules.proofs.WellFormedStep.{step-facts}
-use Rattle.rules.proofs.WellFormedSizes.{step-sized}
+use Rattle.rules.proofs.Sizes.{step-sized}
 use Rattle.rules.proofs.WellFormedStart.{start-main, start-facts, start-sized}
 use Rattle.rules.proofs.PersistTree.{entry, chain-old, spawner-new, grown}
 use Rattle.rules.proofs.HistoryOpen.{Open, open-test, open-first, Opened, begun, before, opened}
@@ -230,7 +231,7 @@ module _ (l : Limits) (t : List ℕ) (ok : Accepted (programOf t)) where
           (ih (after p s i) (insidesAfter p s i h)
           (record {
             facts = step-facts l ok (x .facts) (x .sized) i u m;
-            sized = step-sized l ok s (x .sized) i w r e;
+            sized = step-sized p s (x .sized) i (omega (arith, u .spawned, x .facts .acts64));
             telling = step-told l ok (x .facts) (x .sized) i u m (x .telling);
           }))
 

@@ -2,8 +2,8 @@
 use Prim.Native.Nat.{ℕ}
 use mathlib.Core.Path.{_≡_, refl}
 use mathlib.Core.List.{List, [], _∷_}
-use mathlib.Core.Bool.{Bool, true, false, _&&_, not}
-use Rattle.program.specs.Command.{rows, rowAt, opcode, operandsOf, commandOf, rowOf, width, names, named, times, held, isEnd, usesCell}
+use mathlib.Core.Bool.{true, false, _&&_, not}
+use Rattle.program.specs.Command.{rows, rowAt, commandOf, rowOf, width, names, named, times, held, isEnd, usesCell}
 use Rattle.program.specs.Reading.{read, readingsAfter, readings, wholes, commandsOf}
 use Rattle.program.specs.Bodies.{firstBody, afterEnd, locate, bodiesOf, programOf, from, isPlace}
 use Rattle.program.specs.Scan.{nameFits, atomFits, placing, leftAfter, bodyAfter, verdict, fitsLength, fitsBodies, scan}

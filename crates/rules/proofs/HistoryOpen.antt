@@ -18,7 +18,7 @@ use Rattle.rules.specs.Tree.{here, isFinish, finishes}
 use Rattle.rules.specs.History.{isFinishBody}
 use Rattle.rules.proofs.Tests.{and-intro, true-false}
 use Rattle.rules.proofs.Lists.{Stored, new, old, stored}
-use Rattle.rules.proofs.WellFormedPlaces.{moved}
+use Rattle.rules.proofs.Bodies.{moved}
 use Rattle.rules.proofs.WellFormedStack.{level, Stack, ran-first}
 use Rattle.rules.proofs.WellFormedShape.{Motion, stays, goes, begins, repeats, returns, halts}
 

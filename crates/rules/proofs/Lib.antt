@@ -3,6 +3,7 @@ pub mod Search
 pub mod Sums
 pub mod Lists
 pub mod Sized
+pub mod Turn
 pub mod WellFormedPlaces
 pub mod WellFormedStack
 pub mod WellFormedHolds
@@ -10,7 +11,6 @@ pub mod WellFormedFacts
 pub mod WellFormedShape
 pub mod WellFormedApply
 pub mod WellFormedStep
-pub mod WellFormedSizes
 pub mod WellFormedStart
 pub mod Bits
 pub mod StepLaws
@@ -21,7 +21,9 @@ pub mod HistoryOpen
 pub mod History
 pub mod Shapes
 pub mod Applied
+pub mod Sizes
 pub mod Holders
+pub mod Behind
 pub mod Stable
 pub mod Standstill
 pub mod VirtualTime
@@ -32,7 +34,12 @@ pub mod Bodies
 pub mod Stack
 pub mod Potential
 pub mod Spending
+pub mod Pending
 pub mod Reached
+pub mod ReachedApply
+pub mod ReachedStep
+pub mod NeverExceeds
+pub mod Quiescence
 pub mod Start
 pub mod Calls
 pub mod Demand3

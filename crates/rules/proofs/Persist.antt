@@ -9,7 +9,7 @@ use lib.Dec.{ltb, leb, eqb}
 use borrow.Author.Tests.{ltb-true, eqb-true, eqb-false, eq-eqb}
 use Rattle.program.specs.declared.command.Command.{Command}
 use Rattle.program.specs.declared.command.Command.the-variants.{End, Next, Clock, Resume, Drop, Async, Finish, Repeat, Acc, Offer, Read, Reset, Put, Fetch, Store, Add, Atom}
-use Rattle.program.specs.Command.{rows, rowAt, rowOf, opcode, operandsOf}
+use Rattle.program.specs.Command.{rows, rowAt, rowOf}
 use Rattle.program.specs.Bodies.{Program}
 use Rattle.program.proofs.Shape.{Accepted, Ranged}
 use Rattle.rules.specs.declared.state.Activity.{Activity}
@@ -28,7 +28,9 @@ use Rattle.rules.proofs.Search.{Witness, someBelow-witness, someBelow-i
 use Rattle.rules.proofs.Sized.{Sized}
 use Rattle.rules.proofs.WellFormedFacts.{ActivityFacts, Facts, facts}
 use Rattle.rules.proofs.WellFormedShape.{born, Shape}
-use Rattle.rules.proofs.WellFormedApply.{after, Turn, turn, turn-back, Room, room, at-sound, step-shape, Now, self, newborn, other, act-old, acts-after, owner-old}
+use Rattle.rules.proofs.Turn.{Turn, turn, turn-back, after}
+use Rattle.rules.proofs.Applied.{Now, self, newborn, other, act-old}
+use Rattle.rules.proofs.WellFormedApply.{Room, room, at-sound, step-shape, acts-after, owner-old}
 use Rattle.rules.proofs.PersistBehind.{self-before, child-before}
 use Rattle.rules.proofs.PersistTree.{entry, chain-old, chain-child}
 

@@ -17,7 +17,9 @@ use Rattle.rules.proofs.Search.{chain-same, chain-cases}
 use Rattle.rules.proofs.Sized.{Sized}
 use Rattle.rules.proofs.WellFormedFacts.{Facts}
 use Rattle.rules.proofs.WellFormedShape.{born, Shape}
-use Rattle.rules.proofs.WellFormedApply.{after, Turn, Room, step-shape, Now, self, newborn, other, now}
+use Rattle.rules.proofs.Turn.{Turn, after}
+use Rattle.rules.proofs.Applied.{fits, Now, self, newborn, other, now}
+use Rattle.rules.proofs.WellFormedApply.{Room, step-shape}
 use Rattle.rules.proofs.WellFormedStep.{step-facts}
 
 module _ (l : Limits) {p : Program} (ok : Accepted p) {s : State} (f : Facts (l .phase) p s) (z : Sized s) (i : ℕ) (t : Turn p s i) (r : Room l p s (effect p s i)) where
@@ -27,7 +29,7 @@ module _ (l : Limits) {p : Program} (ok : Accepted p) {s : State} (f : Facts (l 
 
   -- what each entry is after it
   pub entry : (y : ℕ) → Now s i (effect p s i) y
-  entry y = now s i (effect p s i) (z .acts64) (t .spawned) (f .acts64) (r .acts) y
+  entry y = now s (record { sized = z; count = f .acts64 }) i (t .spawned) (effect p s i) (fits s (effect p s i .spawned) (r .acts)) y
 
   -- spawners stay
   pub spawner-old : (y : ℕ) → y < s .activities → spawnerOf (after p s i) y ≡ spawnerOf s y

@@ -20,7 +20,8 @@ use Rattle.rules.specs.Runs.{taken, answers, answersFrom, finished, run,
 use Rattle.rules.proofs.Tests.{decide}
 use Rattle.rules.proofs.Search.{Witness, someBelow-witness, someBelow-none}
 use Rattle.rules.proofs.Bits.{bits-zero}
-use Rattle.rules.proofs.Reached.{total, work-step}
+use Rattle.rules.proofs.Pending.{total}
+use Rattle.rules.proofs.ReachedStep.{work-step}
 use Rattle.rules.proofs.Demand3.{counted, good-at, Good, alive, ready-set, taking, good-step, run-on}
 
 -- A list of steps, all taken, after which every spawned activity has ended.

@@ -11,7 +11,7 @@ use Rattle.program.specs.declared.command.Command.the-variants.{End, Next, Cloc
 use Rattle.rules.specs.declared.state.Registration.the-variants.{Live}
 use Rattle.rules.specs.declared.state.Hold.{Hold}
 use Rattle.rules.specs.declared.state.Activity.{Activity}
-use Rattle.program.specs.Command.{opcode, names, isEnd, times, operandsOf, rowOf, rowAt, rows}
+use Rattle.program.specs.Command.{opcode, names, isEnd, times, rowOf, rowAt, rows}
 use Rattle.program.specs.Bodies.{Program}
 use Rattle.program.specs.Count.{ownActivities, ownClocks, ownAccumulators, ownWork}
 use Rattle.rules.specs.State.{noHold, isAtBarrier}

@@ -14,7 +14,7 @@ use Rattle.program.specs.declared.command.Command.the-variants.{End, Next}
 use Rattle.rules.specs.declared.state.Status.the-variants.{Running, AtBarrier, Ended}
 use Rattle.rules.specs.declared.state.Activity.{Activity}
 use Rattle.rules.specs.declared.state.State.{State}
-use Rattle.program.specs.Command.{isEnd, names, named, opcode, rowOf, rowAt, rows, operandsOf, times}
+use Rattle.program.specs.Command.{isEnd, names, named, rowOf, rowAt, rows, times}
 use Rattle.program.specs.Bodies.{Program, tailOf}
 use Rattle.program.specs.Count.{tally}
 use Rattle.program.proofs.Shape.{Accepted}

@@ -22,7 +22,8 @@ use Rattle.rules.proofs.VirtualTime.{Fine, Timed, timed-none}
 use Rattle.rules.proofs.Tree.{Open}
 use Rattle.rules.proofs.Stack.{Stack, stack-lone}
 use Rattle.rules.proofs.Potential.{lone-pend}
-use Rattle.rules.proofs.Reached.{Inv, total, Reached}
+use Rattle.rules.proofs.Pending.{total}
+use Rattle.rules.proofs.Reached.{Inv, Reached}
 
 -- Activity 0 at the start.
 main : Activity

@@ -16,7 +16,6 @@ use Rattle.rules.specs.declared.state.Registration.{Registration}
 use Rattle.rules.specs.declared.state.Registration.the-variants.{Free, Live, Quiesced}
 use Rattle.rules.specs.declared.state.Hold.{Hold}
 use Rattle.rules.specs.declared.state.Activity.{Activity}
-use Rattle.program.specs.Command.{opcode}
 use Rattle.program.specs.Bodies.{Program}
 use Rattle.rules.specs.State.{isEnded, hold, isAtBarrier, noHold, top}
 use Rattle.rules.specs.Clocks.{isHeld, isLive, quiesce, quiesced, pass, revived}

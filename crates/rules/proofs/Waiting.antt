@@ -23,7 +23,7 @@ use Rattle.rules.specs.Steps.{at, fault, waits}
 use Rattle.rules.proofs.Tests.{and-true, true-false, not-true, decide}
 use Rattle.rules.proofs.Search.{someBelow-witness, someBelow-none}
 use Rattle.rules.proofs.Applied.{Bounded}
-use Rattle.rules.proofs.Stable.{behind-out}
+use Rattle.rules.proofs.Behind.{behind-out}
 use Rattle.rules.proofs.Standstill.{View, AtMeeting, AtFinish, AtRead, Waits, closes, meets, reads, Sound, standstill}
 use Rattle.rules.proofs.Tree.{Open, open-top, descends-above, inside-above, inside-closed}
 
@@ -64,7 +64,7 @@ at-meeting p s i x l e b =
     let q = and-true _ _ (w .passes) in
     let v = someBelow-witness 8 (λ k. isBehind (hold (act s i) (w .at) .clock) (hold (act s i) (w .at) .phase) (hold (act s x) k)) (q .1) in
     let c = behind-out (hold (act s i) (w .at) .clock) (hold (act s i) (w .at) .phase) (hold (act s x) (v .at)) (v .passes) in
-    record { standing = e; own = w .at; owned = q .0; other = x; there = l; name = v .at; holds = c .holds; same = c .same; behind = c .order }
+    record { standing = e; own = w .at; owned = q .0; other = x; there = l; name = v .at; holds = c .held; same = c .clock; behind = c .order }
 
 -- END of a FINISH body waits for one inside.
 at-finish : (p : Program) (s : State) (i x : ℕ) → x < s .activities → inFinishBody p (act s i) && unendedInside s i (top (act s i) .first) x ≡ true

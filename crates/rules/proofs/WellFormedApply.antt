@@ -1,62 +1,34 @@
--- What a step is made of, and what each entry of a state is after an effect: the activity's own new record, the child, or what it was.
+-- A step of a well-formed state: what there is room for, its shape, and the counts and accumulators after it.
 use Prim.Native.Nat.{ℕ, _+_, _-_, _≤_, _<_}
 use native.Mathlib.Omega.{arith}
 use native.Mathlib.Decide.{ℕ-discrete}
-use mathlib.Core.Bool.{Bool, true, false, cond, _||_, _&&_}
+use mathlib.Core.Bool.{Bool, true, false, _&&_}
 use mathlib.Core.Path.{_≡_, refl, sym, ap, _∙_}
-use lib.ListN.{length, getD, set, length-set}
-use lib.Seq.{getD-set-same, getD-set-other}
-use lib.Dec.{ltb, leb, eqb}
-use borrow.Author.Tests.{ltb-true, ltb-false, lt-ltb, leb-false, eqb-true}
+use lib.ListN.{length, getD, set}
+use lib.Seq.{getD-set-other}
+use lib.Dec.{ltb, leb}
+use borrow.Author.Tests.{ltb-false, leb-false}
 use Rattle.program.specs.Bodies.{Program}
 use Rattle.program.specs.Count.{workOf}
 use Rattle.program.proofs.Shape.{Accepted, Sound}
-use Rattle.rules.specs.declared.state.Status.the-variants.{Faulted}
 use Rattle.rules.specs.declared.state.Activity.{Activity}
 use Rattle.rules.specs.declared.state.State.{State}
 use Rattle.rules.specs.Search.{someBelow}
-use Rattle.rules.specs.State.{faultOf, noAccumulator, absent, act, top, hold, accumulator, ended}
+use Rattle.rules.specs.State.{noAccumulator, act, top, hold, accumulator, ended}
 use Rattle.rules.specs.Tree.{here}
-use Rattle.rules.specs.Faults.{faultFor}
-use Rattle.rules.specs.Effects.{Spawned, nobody, one, Write, keep, make, offer, reset, Effect, spawnedCount, clockedCount, writtenCount, withValue, effectOf, failing, envOf, applied}
-use Rattle.rules.specs.Steps.{Limits, at, fault, waits, effect, refusal, spawns, makes, exceeds}
-use Rattle.rules.proofs.Tests.{and-false, true-false}
+use Rattle.rules.specs.Effects.{Spawned, nobody, one, Write, keep, make, offer, reset, Effect, spawnedCount, clockedCount, writtenCount, withValue, applied}
+use Rattle.rules.specs.Steps.{Limits, at, fault, effect, spawns, makes, exceeds}
+use Rattle.rules.proofs.Tests.{and-false, or-false}
 use Rattle.rules.proofs.Search.{someBelow-none}
 use Rattle.rules.proofs.Lists.{Stored, new, old, stored}
+use Rattle.rules.proofs.Turn.{effect-doing, effect-failed}
 use Rattle.rules.proofs.WellFormedPlaces.{placed-sound}
 use Rattle.rules.proofs.WellFormedFacts.{Facts}
 use Rattle.rules.proofs.WellFormedShape.{Shape, fails, shape, Naming, keeps, adds, offers, resets}
-
--- WHO MAY STEP
-
--- An activity that numbers 14 to 16 do not turn down.
-pub record Turn (p : Program) (s : State) (i : ℕ) : Type 0 where
-  pub spawned : i < s .activities
-  pub unended : ended s i ≡ false
-  pub moves : waits p s i ≡ false
-
--- what it says that there is no such number
-pub turn : (p : Program) (s : State) (i : ℕ) → refusal p s i ≡ 0 → Turn p s i
-unfolding refusal
-turn p s i e = go (ltb i (s .activities)) refl (ended s i) refl (waits p s i) refl e
-  where
-    go : (x : Bool) → ltb i (s .activities) ≡ x → (y : Bool) → ended s i ≡ y → (z : Bool) → waits p s i ≡ z → _≡_ {A = ℕ} (cond x (cond y 15 (cond z 16 0)) 14) 0 → Turn p s i
-    go true h true m z w e = absurd (omega arith)
-    go true h false m true w e = absurd (omega arith)
-    go true h false m false w e = record { spawned = ltb-true i (s .activities) h; unended = m; moves = w }
-    go false h y m z w e = absurd (omega arith)
-
--- and back
-pub turn-back : (p : Program) (s : State) (i : ℕ) → Turn p s i → refusal p s i ≡ 0
-unfolding refusal
-turn-back p s i t = rw (lt-ltb i (s .activities) (t .spawned), t .unended, t .moves)
+-- who may step
+pub use Rattle.rules.proofs.Turn.{turn}
 
 -- WHAT THERE IS ROOM FOR
-
--- neither of two tests passes
-or-false : (a b : Bool) → a || b ≡ false → (a ≡ false) × (b ≡ false)
-or-false true b e = absurd (true-false true refl e)
-or-false false b e = (refl, e)
 
 -- Number 17 does not turn the effect down.
 pub record Room (l : Limits) (p : Program) (s : State) (e : Effect) : Type 0 where
@@ -93,60 +65,15 @@ module _ {limit : ℕ} {p : Program} {s : State} (ok : Accepted p) (f : Facts li
 
   -- what its step does has a shape, a fault too
   pub step-shape : i < s .activities → ended s i ≡ false → Shape p s i (act s i) (here p (top (act s i)) .command) (effect p s i)
-  unfolding effect fault at
-  step-shape l u = go (eqb n 0) refl
+  unfolding fault at
+  step-shape l u = go (ℕ-discrete (fault p s i) 0)
     where
-      n : ℕ
-      n = faultFor p (envOf s) i (act s i) (here p (top (act s i)) .command)
-
-      go : (x : Bool) → eqb n 0 ≡ x
-          → Shape p s i (act s i) (here p (top (act s i)) .command)
-          (cond x (effectOf p (envOf s) i (act s i) (here p (top (act s i)) .command) (here p (top (act s i)) .inner)) (failing (act s i) (Faulted (faultOf n))))
-      go true e =
-          shape p s i (act s i) u (f .spawned i l .bounds) (here p (top (act s i)) .command) (here p (top (act s i)) .inner) (f .spawned i l .barrier) (at-sound l u .ranged)
-          (eqb-true n 0 e)
-      go false e = fails (Faulted (faultOf n)) refl
-
--- The state after the step of activity i.
-abbrev pub after : Program → State → ℕ → State
-after p s i = applied s i (effect p s i)
-
--- THE ACTIVITIES AFTER AN EFFECT
-
--- What entry x is after an effect.
-pub data Now (s : State) (i : ℕ) (e : Effect) (x : ℕ) : Type 0 where
-  self : x ≡ i → act (applied s i e) x ≡ e .self → Now s i e x
-  newborn : (c : Activity) → e .spawned ≡ one c → x ≡ s .activities → act (applied s i e) x ≡ c → Now s i e x
-  other : (x ≡ i → ⊥) → (x < applied s i e .activities → x < s .activities) → act (applied s i e) x ≡ act s x → Now s i e x
-
--- each entry is one of the three
-pub now : (s : State) (i : ℕ) (e : Effect) → length (s .acts) ≡ 64 → i < s .activities → s .activities ≤ 64 → (spawns (e .spawned) ≡ true → s .activities < 64) → (x : ℕ) → Now s i e x
-unfolding applied
-now s i e z l m r x = go (e .spawned) refl r (ℕ-discrete x i) (ℕ-discrete x (s .activities))
-  where
-    a : Activity
-    a = e .self
-
-    go : (c : Spawned) → e .spawned ≡ c → (spawns c ≡ true → s .activities < 64) → Dec (x ≡ i) → Dec (x ≡ s .activities) → Now s i e x
-    go nobody q r (yes d) g = self d (rw (q, d) (getD-set-same (s .acts) i a absent (omega arith)))
-    go nobody q r (no d) g = other d (λ h. rw q at h) (rw q (getD-set-other (s .acts) i x a absent d))
-    go (one c) q r (yes d) g = self d (rw (q, d) (getD-set-other (set (s .acts) i a) (s .activities) i c absent (λ h. omega arith) ∙ getD-set-same (s .acts) i a absent (omega arith)))
-    go (one c) q r (no d) (yes g) = newborn c q g (rw (q, g) (getD-set-same (set (s .acts) i a) (s .activities) c absent (omega (arith, length-set (s .acts) i a, r refl))))
-    go (one c) q r (no d) (no g) =
-        other d (λ h. omega (arith, below h)) (rw q (getD-set-other (set (s .acts) i a) (s .activities) x c absent g ∙ getD-set-other (s .acts) i x a absent d))
-      where
-        below : x < applied s i e .activities → x < s .activities + 1
-        below h = rw q at h
-
--- the one who did not step
-pub act-old : (s : State) (i : ℕ) (e : Effect) (x : ℕ) → x < s .activities → (x ≡ i → ⊥) → act (applied s i e) x ≡ act s x
-unfolding applied
-act-old s i e x l d = go (e .spawned) refl
-  where
-    go : (c : Spawned) → e .spawned ≡ c → act (applied s i e) x ≡ act s x
-    go nobody q = rw q (getD-set-other (s .acts) i x (e .self) absent d)
-    go (one c) q =
-        rw q (getD-set-other (set (s .acts) i (e .self)) (s .activities) x c absent (λ h. omega arith) ∙ getD-set-other (s .acts) i x (e .self) absent d)
+      go : Dec (fault p s i ≡ 0) → Shape p s i (act s i) (here p (top (act s i)) .command) (effect p s i)
+      go (yes e) =
+          rw (effect-doing p s i e)
+          (shape p s i (act s i) u (f .spawned i l .bounds) (here p (top (act s i)) .command) (here p (top (act s i)) .inner) (f .spawned i l .barrier)
+          (at-sound l u .ranged) e)
+      go (no e) = rw (effect-failed p s i e) (fails _ refl)
 
 -- COUNTS
 

@@ -11,7 +11,7 @@ use lib.Dec.{ltb, leb}
 use borrow.Author.Tests.{ltb-true, leb-false, eqb-false}
 use Rattle.program.specs.declared.command.Command.{Command}
 use Rattle.program.specs.declared.command.Command.the-variants.{End, Next, Clock, Resume, Drop, Async, Finish, Repeat, Acc, Offer, Read, Reset, Put, Fetch, Store, Add, Atom}
-use Rattle.program.specs.Command.{rows, rowAt, rowOf, opcode, operandsOf, isEnd}
+use Rattle.program.specs.Command.{rows, rowAt, rowOf, opcode, isEnd}
 use Rattle.program.specs.Bodies.{Program}
 use Rattle.program.proofs.Shape.{Ranged}
 use Rattle.rules.specs.declared.state.Status.{Status}
@@ -27,7 +27,7 @@ use Rattle.rules.specs.Faults.{bit, lendsUnheld, lendsQuiesced, asyncFau
 use Rattle.rules.specs.Effects.{withRegister, stopped, past, pushed, again, popped, endOf, nextOf, repeatOf, child, newAccumulator, touch, touchAll, untouched, Spawned, nobody, one, Write, keep, make, offer, reset, Effect, alone, effectOf, failing, envOf}
 use Rattle.rules.proofs.Tests.{and-true, and-not, and-false, cond-zero, true-false, decide}
 use Rattle.rules.proofs.Search.{someBelow-none}
-use Rattle.rules.proofs.WellFormedPlaces.{moved}
+use Rattle.rules.proofs.Bodies.{moved}
 use Rattle.rules.proofs.WellFormedStack.{Ran, byFinish, byRepeat, level}
 
 -- How command o moves a stack, where `made` activities were spawned: a is before, b after.

@@ -12,7 +12,7 @@ use lib.Dec.{ltb, leb, eqb}
 use borrow.Author.Tests.{ltb-true, ltb-false, lt-ltb, le-ltb, leb-true, le-leb, eqb-true, eq-eqb}
 use Rattle.program.specs.declared.command.Command.{Command}
 use Rattle.program.specs.declared.command.Command.the-variants.{End, Next, Clock, Resume, Drop, Async, Finish, Repeat, Acc, Offer, Read, Reset, Put, Fetch, Store, Add, Atom}
-use Rattle.program.specs.Command.{rows, rowAt, rowOf, opcode, operandsOf, names, named, isEnd}
+use Rattle.program.specs.Command.{rows, rowAt, rowOf, names, named, isEnd}
 use Rattle.program.specs.Bodies.{Program}
 use Rattle.program.proofs.Shape.{Accepted}
 use Rattle.rules.specs.declared.state.Frame.{Frame}

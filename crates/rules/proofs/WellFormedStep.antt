@@ -11,7 +11,7 @@ use lib.ListN.{length, getD, set, length-set, length-replicate, getD-replicate}
 use lib.Seq.{getD-set-same, getD-set-other}
 use Rattle.program.specs.declared.command.Command.{Command}
 use Rattle.program.specs.declared.command.Command.the-variants.{Async}
-use Rattle.program.specs.Command.{rows, rowAt, rowOf, opcode, operandsOf, names, named, isEnd}
+use Rattle.program.specs.Command.{rows, rowAt, rowOf, opcode, names, named, isEnd}
 use Rattle.program.specs.Bodies.{Program}
 use Rattle.program.proofs.Shape.{Accepted, Sound}
 use Rattle.rules.specs.declared.state.Status.{Status}
@@ -29,12 +29,15 @@ use Rattle.rules.specs.Steps.{Limits, at, effect, refusal, makes, exceed
 use Rattle.rules.proofs.Tests.{true-false}
 use Rattle.rules.proofs.Lists.{Stored, new, old, stored}
 use Rattle.rules.proofs.Sized.{Sized}
-use Rattle.rules.proofs.WellFormedPlaces.{moved, placed-body, placed-next, placed-begun}
+use Rattle.rules.proofs.Bodies.{moved}
+use Rattle.rules.proofs.WellFormedPlaces.{placed-body, placed-next, placed-begun}
 use Rattle.rules.proofs.WellFormedStack.{ran-going, ran-names, level, Stacked, Stack, On, stack-put, stack-room, stack-more, on-moved, on-again}
 use Rattle.rules.proofs.WellFormedHolds.{Held, under-none, held-none, held-map, held-set, held-new, held-lent, held-more, fits-none, fits-like, quiesced-held, revived-held, under-map}
 use Rattle.rules.proofs.WellFormedFacts.{ActivityFacts, Facts, facts, formed, facts-more}
 use Rattle.rules.proofs.WellFormedShape.{Motion, stays, goes, begins, repeats, returns, halts, Holding, same, quiesces, passes, clocks, resumes, drops, leaves, Naming, keeps, adds, offers, resets, born, Shape}
-use Rattle.rules.proofs.WellFormedApply.{after, Turn, turn, Room, room, at-sound, step-shape, Now, self, newborn, other, now, acts-after, clocks-after, accs-after, owner-old}
+use Rattle.rules.proofs.Turn.{Turn, turn, after}
+use Rattle.rules.proofs.Applied.{fits, Now, self, newborn, other, now}
+use Rattle.rules.proofs.WellFormedApply.{Room, room, at-sound, step-shape, acts-after, clocks-after, accs-after, owner-old}
 
 -- STACKS
 
@@ -305,7 +308,7 @@ module _ (l : Limits) {p : Program} {s : State} (ok : Accepted p) (f : Facts (l 
         }
       where
         at-now : (y : ℕ) → Now s i (effect p s i) y
-        at-now y = now s i (effect p s i) (z .acts64) (t .spawned) (f .acts64) (r .acts) y
+        at-now y = now s (record { sized = z; count = f .acts64 }) i (t .spawned) (effect p s i) (fits s (effect p s i .spawned) (r .acts)) y
 
         new-owner : (n : ℕ) → s .accumulators ≤ n
             → (n < after p s i .accumulators → accumulator (after p s i) n .owner ≡ i) × (after p s i .accumulators ≤ n → accumulator (after p s i) n ≡ accumulator s n)

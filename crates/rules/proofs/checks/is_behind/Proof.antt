@@ -35,9 +35,6 @@ module _ (c p : ℕ) (h : Hold) where
   unfolding isBehind
   later e k l n = rw (e, eq-eqb (h .clock) c k, le-ltb (h .phase) p l, ne-eqb (h .phase) p n)
 
-is-held-requires : tie.Need-is-held-requires
-is-held-requires c κs = search needs
-
 returns : tie.Need-returns
 returns c = let a = c .before .before .args in unheld (a .clock) (a .phase) (a .hold) (sym (c .before .is-held .ensures) ∙ not-true _ (c .if1 .taken))
 
@@ -52,9 +49,6 @@ returns-3 c =
     let a = c .before .before .before .before .before .before .args in
     let u = c .before .before .before .before in
     earlier (a .clock) (a .phase) (a .hold) (held (u .before .is-held .ensures) (u .if1 .left)) (c .before .before .if2 .left) (c .if3 .taken)
-
-is-live-requires : tie.Need-is-live-requires
-is-live-requires c κs = search needs
 
 returns-4 : tie.Need-returns-4
 returns-4 c =
@@ -73,4 +67,4 @@ returns-5 c =
 pub is-behind-spec : {M : Type 1} → statement M
 is-behind-spec =
     tie.close
-    (tie.spec is-held-requires returns returns-2 returns-3 is-live-requires returns-4 returns-5)
+    (tie.spec (λ is-held-requires κs. search needs) returns returns-2 returns-3 (λ is-live-requires κs. search needs) returns-4 returns-5)

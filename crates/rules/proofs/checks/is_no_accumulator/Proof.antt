@@ -10,11 +10,9 @@ returns c = rw (ne-eqb _ 0 (c .if1 .taken))
 returns-2 : tie.Need-returns-2
 returns-2 c = rw (eq-eqb _ 0 (c .before .before .if1 .left), ne-eqb _ 0 (c .if2 .taken))
 
-operator-number-requires : tie.Need-operator-number-requires
-operator-number-requires c κs = search needs
-
 returns-3 : tie.Need-returns-3
 returns-3 c = rw (eq-eqb _ 0 (c .before .before .before .if1 .left), eq-eqb _ 0 (c .before .if2 .left), c .operator-number .ensures)
 
 pub is-no-accumulator-spec : {M : Type 1} → statement M
-is-no-accumulator-spec = tie.close (tie.spec returns returns-2 operator-number-requires returns-3)
+is-no-accumulator-spec = tie.close
+    (tie.spec returns returns-2 (λ operator-number-requires κs. search needs) returns-3)

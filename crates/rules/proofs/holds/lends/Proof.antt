@@ -18,17 +18,9 @@ past m k l h =
     let e : m / 2 ^ k ≡ 0 = omega arith in
     rw e
 
-cast-result : tie.Need-cast-result
-cast-result c = search needs
-
-shr-result : tie.Need-shr-result
-shr-result c = search needs
-
-returns : tie.Need-returns
-returns c = search needs
-
 returns-2 : tie.Need-returns-2
 returns-2 c = past _ _ (c .before .fits .mask .fits) (c .if1 .left)
 
 pub lends-spec : {M : Type 1} → statement M
-lends-spec = tie.close (tie.spec cast-result shr-result returns returns-2)
+lends-spec = tie.close
+    (tie.spec (λ cast-result. search needs) (λ shr-result. search needs) (λ returns. search needs) returns-2)

@@ -3,11 +3,9 @@ use borrow.Author.Needs.{needs}
 use Rattle.rules.proofs.holds.quiesce.Statement.{statement}
 use Rattle.rules.proofs.holds.quiesce.Tie as tie
 
-quiesced-requires : tie.Need-quiesced-requires
-quiesced-requires c κs = search needs
-
 returns : tie.Need-returns
 returns c = rw (c .quiesced .ensures)
 
 pub quiesce-spec : {M : Type 1} → statement M
-quiesce-spec = tie.close (tie.spec quiesced-requires returns)
+quiesce-spec = tie.close
+    (tie.spec (λ quiesced-requires κs. search needs) returns)

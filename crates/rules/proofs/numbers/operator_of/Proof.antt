@@ -14,14 +14,9 @@ rest (suc zero) h1 h2 = absurd (h1 refl)
 rest (suc (suc zero)) h1 h2 = absurd (h2 refl)
 rest (suc (suc (suc n))) h1 h2 = refl
 
-returns : tie.Need-returns
-returns c = search needs
-
-returns-2 : tie.Need-returns-2
-returns-2 c = search needs
-
 returns-3 : tie.Need-returns-3
 returns-3 c = rest _ (c .match .rest .0 .1) (c .match .rest .1)
 
 pub operator-of-spec : {M : Type 1} → statement M
-operator-of-spec = tie.close (tie.spec returns returns-2 returns-3)
+operator-of-spec = tie.close
+    (tie.spec (λ returns. search needs) (λ returns-2. search needs) returns-3)

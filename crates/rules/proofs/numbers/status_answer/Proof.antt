@@ -21,32 +21,8 @@ fits F5 e = record { fits = omega arith }
 fits F6 e = record { fits = omega arith }
 fits F7 e = record { fits = omega arith }
 
-enum-told : tie.Need-enum-told
-enum-told c = search needs
-
-enum-told-2 : tie.Need-enum-told-2
-enum-told-2 c = search needs
-
-enum-told-3 : tie.Need-enum-told-3
-enum-told-3 c = search needs
-
-enum-known-status : tie.Need-enum-known-status
-enum-known-status c = search needs
-
-fault-number-requires : tie.Need-fault-number-requires
-fault-number-requires c κs = search needs
-
 add-result : tie.Need-add-result
 add-result c = fits (c .before .before .status .given .0 .0) (c .fault-number .ensures)
-
-returns : tie.Need-returns
-returns c = search needs
-
-returns-2 : tie.Need-returns-2
-returns-2 c = search needs
-
-returns-3 : tie.Need-returns-3
-returns-3 c = search needs
 
 returns-4 : tie.Need-returns-4
 returns-4 c = cc
@@ -54,14 +30,5 @@ returns-4 c = cc
 pub status-answer-spec : {M : Type 1} → statement M
 status-answer-spec =
     tie.close
-    (tie.spec
-    enum-told
-    enum-told-2
-    enum-told-3
-    enum-known-status
-    fault-number-requires
-    add-result
-    returns
-    returns-2
-    returns-3
-    returns-4)
+    (tie.spec (λ enum-told. search needs) (λ enum-told-2. search needs) (λ enum-told-3. search needs) (λ enum-known-status. search needs)
+    (λ fault-number-requires κs. search needs) add-result (λ returns. search needs) (λ returns-2. search needs) (λ returns-3. search needs) returns-4)

@@ -4,18 +4,6 @@ use borrow.Author.Tests.{le-leb, lt-leb}
 use Rattle.rules.proofs.reduction.reduce.Statement.{statement}
 use Rattle.rules.proofs.reduction.reduce.Tie as tie
 
-enum-told : tie.Need-enum-told
-enum-told c = search needs
-
-wrapping-add-u32-requires : tie.Need-wrapping-add-u32-requires
-wrapping-add-u32-requires c κs = search needs
-
-enum-told-2 : tie.Need-enum-told-2
-enum-told-2 c = search needs
-
-enum-told-3 : tie.Need-enum-told-3
-enum-told-3 c = search needs
-
 returns : tie.Need-returns
 returns c = rw (c .wrapping-add-u32 .ensures, c .before .enum-told .given .1)
 
@@ -34,13 +22,5 @@ returns-5 c = rw (c .before .enum-told3 .given .1, lt-leb _ _ (c .if2 .left))
 pub reduce-spec : {M : Type 1} → statement M
 reduce-spec =
     tie.close
-    (tie.spec
-    enum-told
-    wrapping-add-u32-requires
-    enum-told-2
-    enum-told-3
-    returns
-    returns-2
-    returns-3
-    returns-4
-    returns-5)
+    (tie.spec (λ enum-told. search needs) (λ wrapping-add-u32-requires κs. search needs) (λ enum-told-2. search needs) (λ enum-told-3. search needs) returns
+    returns-2 returns-3 returns-4 returns-5)

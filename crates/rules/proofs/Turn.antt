@@ -1,0 +1,57 @@
+-- Who may step, and what the step does: its command's effect, or a fault.
+use Prim.Native.Nat.{ℕ, _<_}
+use native.Mathlib.Omega.{arith}
+use mathlib.Core.Bool.{Bool, true, false, cond}
+use mathlib.Core.Path.{_≡_, refl}
+use lib.Dec.{ltb}
+use borrow.Author.Tests.{ltb-true, lt-ltb, eq-eqb, ne-eqb}
+use Rattle.program.specs.Bodies.{Program}
+use Rattle.rules.specs.declared.state.Status.the-variants.{Faulted}
+use Rattle.rules.specs.declared.state.State.{State}
+use Rattle.rules.specs.State.{act, ended, faultOf}
+use Rattle.rules.specs.Effects.{Effect, envOf, effectOf, failing, applied}
+use Rattle.rules.specs.Steps.{at, fault, waits, effect, refusal}
+
+-- An activity that numbers 14 to 16 do not turn down.
+pub record Turn (p : Program) (s : State) (i : ℕ) : Type 0 where
+  pub spawned : i < s .activities
+  pub unended : ended s i ≡ false
+  pub moves : waits p s i ≡ false
+
+-- What it says that there is no such number.
+pub turn : (p : Program) (s : State) (i : ℕ) → refusal p s i ≡ 0 → Turn p s i
+unfolding refusal
+turn p s i e = go (ltb i (s .activities)) refl (ended s i) refl (waits p s i) refl e
+  where
+    go : (x : Bool) → ltb i (s .activities) ≡ x → (y : Bool) → ended s i ≡ y → (z : Bool) → waits p s i ≡ z → _≡_ {A = ℕ} (cond x (cond y 15 (cond z 16 0)) 14) 0 → Turn p s i
+    go true h true m z w e = absurd (omega arith)
+    go true h false m true w e = absurd (omega arith)
+    go true h false m false w e = record { spawned = ltb-true i (s .activities) h; unended = m; moves = w }
+    go false h y m z w e = absurd (omega arith)
+
+-- And back.
+pub turn-back : (p : Program) (s : State) (i : ℕ) → Turn p s i → refusal p s i ≡ 0
+unfolding refusal
+turn-back p s i t = rw (lt-ltb i (s .activities) (t .spawned), t .unended, t .moves)
+
+-- The effect of the command.
+abbrev pub doing : Program → State → ℕ → Effect
+doing p s i = effectOf p (envOf s) i (act s i) (at p s i .command) (at p s i .inner)
+
+-- The effect of a fault.
+abbrev pub failed : Program → State → ℕ → Effect
+failed p s i = failing (act s i) (Faulted (faultOf (fault p s i)))
+
+-- No fault: the command's.
+pub effect-doing : (p : Program) (s : State) (i : ℕ) → fault p s i ≡ 0 → effect p s i ≡ doing p s i
+unfolding effect
+effect-doing p s i e = rw (eq-eqb _ _ e)
+
+-- A fault: that.
+pub effect-failed : (p : Program) (s : State) (i : ℕ) → (fault p s i ≡ 0 → ⊥) → effect p s i ≡ failed p s i
+unfolding effect
+effect-failed p s i e = rw (ne-eqb _ _ e)
+
+-- The state after the step.
+abbrev pub after : Program → State → ℕ → State
+after p s i = applied s i (effect p s i)
