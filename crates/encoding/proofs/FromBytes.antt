@@ -9,7 +9,9 @@ use Rattle.encoding.specs.Bytes.{bytesOf, numberOf, part, byteAt, encode
 use Rattle.encoding.specs.Encode.{encodeFrame, encodeHold, encodeActivity, encodeAccumulator, encodeState}
 use Rattle.encoding.specs.Decode.{frameAt, holdAt, activityAt, accumulatorAt, stateOf, frameEncodes, holdEncodes, activityEncodes, accumulatorEncodes, fieldsEncode}
 use Rattle.encoding.proofs.NumberLaws.{Bytes, bytes-of-number}
-use Rattle.encoding.proofs.PartLaws.{Back, each-back, partsPass-all, none-yet, byte, field, all, sized, part-bytes, number-part, zero-part}
+use Rattle.encoding.proofs.FieldLaws.{none-yet, byte, field, all, sized, part-bytes, number-part, zero-part}
+use Rattle.encoding.proofs.PartLaws.{partsPass-all}
+use Rattle.encoding.proofs.RoundLaws.{Back, each-back}
 use Rattle.encoding.proofs.EnumLaws.{registration-back, operator-back, status-back}
 use Rattle.encoding.proofs.Passed.{hold-passes, accumulator-passes, activity-passes, state-passes}
 use Rattle.encoding.proofs.FromState.{untested}

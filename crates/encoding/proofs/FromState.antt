@@ -18,7 +18,7 @@ use Rattle.encoding.specs.Bytes.{bytesOf, numberOf, allZero, encodeEach}
 use Rattle.encoding.specs.Encode.{encodeFrame, encodeHold, encodeActivity, encodeAccumulator, encodeState}
 use Rattle.encoding.specs.Decode.{limit, frameAt, holdAt, activityAt, accumulatorAt, stateOf, frameEncodes, holdEncodes, activityEncodes, accumulatorEncodes, fieldsEncode}
 use Rattle.encoding.proofs.NumberLaws.{bytesOf-length, number-of-bytes}
-use Rattle.encoding.proofs.PartLaws.{Round, each-round}
+use Rattle.encoding.proofs.RoundLaws.{Round, each-round}
 use Rattle.encoding.proofs.EnumLaws.{registration-there, registration-passes, operator-there, operator-passes, status-there, status-passes}
 use Rattle.encoding.proofs.Fits.{FitsFrame, FitsHold, FitsAccumulator, FitsActivity, FitsState}
 

@@ -1,5 +1,7 @@
 pub mod NumberLaws
+pub mod FieldLaws
 pub mod PartLaws
+pub mod RoundLaws
 pub mod Passed
 pub mod Fits
 pub mod EnumLaws

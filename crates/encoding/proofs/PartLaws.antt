@@ -1,23 +1,19 @@
--- Laws of parts: fields one after the other, and a list of n parts of k bytes each.
+-- Laws of n parts of k bytes each: the loops that test, read and write them.
 use Prim.Native.Nat.{ℕ, zero, suc, _+_, _-_, _*_, _≤_, _<_}
 use native.Mathlib.Omega.{arith}
-use native.Mathlib.Nat.{not-suc-le-zero, le-of-suc-le-suc, mul-suc, mul-zero, mul-le-mul-left, suc-mul, zero-mul, add-comm, add-sub-cancel-left}
+use native.Mathlib.Nat.{not-suc-le-zero, le-of-suc-le-suc, mul-suc, mul-zero, mul-le-mul-left, add-comm, add-sub-cancel-left}
 use native.Mathlib.Numerals.{add-one}
 use mathlib.Core.List.{List, [], _∷_, _++_, append-nil, append-assoc}
 use mathlib.Core.Bool.{Bool, true, false, _&&_}
 use mathlib.Core.Path.{_≡_, refl, sym, ap, _∙_}
-use lib.ListN.{length, replicate, getD, take, drop, set, take-append-drop, length-append, length-drop, length-set}
-use lib.Seq.{take-at, drop-at, take-suc, take-suc-set, take-all, take-add, drop-drop, length-take-le, take-append-add}
+use lib.ListN.{length, getD, take, drop, set, length-set}
+use lib.Seq.{take-suc-set, take-all, drop-drop}
 use borrow.Rule.Slice.PartMut.{putMid}
 use Rattle.rules.proofs.Tests.{and-true}
-use Rattle.encoding.specs.Bytes.{bytesOf, numberOf, part, byteAt, allZero, encodeEach, partsAt, partsPass}
-use Rattle.encoding.proofs.NumberLaws.{Bytes, bytes-take, bytes-drop, bytes-of-number, zeros}
+use Rattle.encoding.specs.Bytes.{part, encodeEach, partsAt, partsPass}
+use Rattle.encoding.proofs.FieldLaws.{sized, Upto, none-yet, put, all}
 
--- ONE FIELD AFTER THE OTHER: WRITING
-
--- a part within the bytes is as long as asked for
-pub sized : (b : List ℕ) (at k m : ℕ) → m ≡ k → at + k ≤ length b → length (take m (drop at b)) ≡ k
-sized b at k m e h = rw e (length-take-le k (drop at b) (rw length-drop (omega arith)))
+-- THE PART OF A TURN
 
 -- the part of a turn of a loop
 pub turn : (k i : ℕ) → k * i + k - k * i ≡ k
@@ -31,71 +27,7 @@ turn-fits {i} k h = rw (← mul-suc) (mul-le-mul-left k h)
 pub turn-sized : (b : List ℕ) (k i n : ℕ) → length b ≡ k * n → i < n → length (take (k * i + k - k * i) (drop (k * i) b)) ≡ k
 turn-sized b k i n h j = sized b (k * i) k _ (turn k i) (rw h (turn-fits k j))
 
--- n bytes, of which the first so many are written
-pub record Upto (l : List ℕ) (n at : ℕ) (p : List ℕ) : Type 0 where
-  pub full : length l ≡ n
-  pub done : take at l ≡ p
-
--- none is written
-pub none-yet : (l : List ℕ) (n : ℕ) → length l ≡ n → Upto l n 0 []
-none-yet l n h = record { full = h; done = refl }
-
--- a byte is stored behind them
-pub store : {l p : List ℕ} {n at : ℕ} (v : ℕ) → Upto l n at p → at < n → Upto (set l at v) n (suc at) (p ++ (v ∷ []))
-store {l} {p} {n} {at} v u h = record { full = length-set l at v ∙ u .full; done = rw (take-suc-set l at v (rw (u .full) h), u .done) }
-
--- the same, where the byte is known by an equation
-pub store-as : {l p : List ℕ} {n at : ℕ} (v w : ℕ) → v ≡ w → Upto l n at p → at < n → Upto (set l at v) n (suc at) (p ++ (w ∷ []))
-store-as {l} {p} {n} {at} v w e u h = let s = store v u h in record { full = s .full; done = s .done ∙ rw e }
-
--- a part is written behind them
-pub put : {l p : List ℕ} {n at : ℕ} (k m : ℕ) (e x : List ℕ) → Upto l n at p → at + k ≤ n → m ≡ k → length e ≡ length (take m (drop at l)) → e ≡ x → Upto (putMid at m l e) n (at + k) (p ++ x)
-put {l} {p} {n} {at} k m e x u h j w v =
-    let f : length l ≡ n = u .full in
-    let o : length e ≡ k = w ∙ sized l at k m j (omega arith) in
-    let q : length (take at l) ≡ at = length-take-le at l (omega arith) in
-    record {
-      full = simp (length-append, length-drop, q, o) (omega arith);
-      done =
-          ap (λ (i : ℕ). take (i + k) (putMid at m l e)) (sym q)
-          ∙ take-append-add (take at l) (e ++ drop m (drop at l)) k
-          ∙ rw (take-at e (drop m (drop at l)) k o, u .done, v);
-    }
-
--- the same, where what is written goes by the part's length
-pub put-of : {l p : List ℕ} {n at : ℕ} (k : ℕ) (g : ℕ → List ℕ) (e : List ℕ) → Upto l n at p → at + k ≤ n → length e ≡ length (part l at k) → e ≡ g (length (part l at k)) → Upto (putMid at k l e) n (at + k) (p ++ g k)
-put-of {l} {p} {n} {at} k g e u h w v =
-    let f : length l ≡ n = u .full in
-    put k k e (g k) u h refl w (v ∙ ap g (sized l at k k refl (omega arith)))
-
--- all are written
-pub all : {l p : List ℕ} {n : ℕ} → Upto l n n p → l ≡ p
-all {l} {p} {n} u = sym (take-all n l (rw (u .full) (omega arith))) ∙ u .done
-
--- ONE FIELD AFTER THE OTHER: READING
-
--- of the first so many bytes it is known what they are; and of the next one
-pub byte : {b p : List ℕ} {n at : ℕ} (v : ℕ) → Upto b n at p → at < n → byteAt b at ≡ v → Upto b n (suc at) (p ++ (v ∷ []))
-byte {b} {p} {n} {at} v u h e = record { full = u .full; done = rw (take-suc b at 0 (rw (u .full) h), u .done, e) }
-
--- and of the next part
-pub field : {b p : List ℕ} {n at : ℕ} (k : ℕ) (x : List ℕ) → Upto b n at p → part b at k ≡ x → Upto b n (at + k) (p ++ x)
-field {b} {p} {n} {at} k x u e = record { full = u .full; done = rw (take-add, u .done, e) }
-
--- a part of bytes is bytes
-pub part-bytes : (b : List ℕ) (at k : ℕ) → Bytes b → Bytes (part b at k)
-part-bytes b at k h = bytes-take k (drop at b) (bytes-drop at b h)
-
--- a part of bytes is the bytes of its number
-pub number-part : (b : List ℕ) (at k : ℕ) → Bytes b → at + k ≤ length b → part b at k ≡ bytesOf k (numberOf (part b at k))
-number-part b at k y h =
-    sym (bytes-of-number (part b at k) (part-bytes b at k y)) ∙ ap (λ (m : ℕ). bytesOf m (numberOf (part b at k))) (sized b at k k refl h)
-
--- reserved bytes that pass are zeros
-pub zero-part : (b : List ℕ) (at k : ℕ) → allZero (part b at k) ≡ true → at + k ≤ length b → part b at k ≡ replicate k 0
-zero-part b at k e h = sym (zeros (part b at k) e) ∙ ap (λ (m : ℕ). replicate m 0) (sized b at k k refl h)
-
--- N PARTS OF K BYTES EACH
+-- ONE PART MORE
 
 -- the next part from one part on
 drop-turn : (k i : ℕ) (b : List ℕ) → drop (k * i) (drop k b) ≡ drop (k * suc i) b
@@ -240,54 +172,3 @@ write-done f xs k n i l u h j =
     let q : i ≡ n = omega arith in
     let v : Upto l (k * n) (k * n) (encodeEach f (take n xs)) = rw q at (u .1) in
     all v ∙ rw (take-all n xs (omega arith))
-
--- N PARTS OF K BYTES EACH: THERE AND BACK
-
--- a value comes back from its k bytes, which pass
-pub record Round {A : Type 0} (e : A → List ℕ) (f : List ℕ → A) (p : List ℕ → Bool) (k : ℕ) (x : A) : Type 0 where
-  pub size : length (e x) ≡ k
-  pub back : f (e x) ≡ x
-  pub passes : p (e x) ≡ true
-
--- k bytes that pass come back from their value
-pub record Back {A : Type 0} (e : A → List ℕ) (f : List ℕ → A) (p : List ℕ → Bool) (k : ℕ) : Type 0 where
-  pub same : (b : List ℕ) → length b ≡ k → Bytes b → p b ≡ true → e (f b) ≡ b
-
--- a list comes back from the bytes of its entries
-pub each-round : {A : Type 0} {e : A → List ℕ} {f : List ℕ → A} {p : List ℕ → Bool} {k : ℕ} (d : A) (l : List A)
-    → ((i : ℕ) → i < length l → Round e f p k (getD l i d))
-    → Round (encodeEach e) (partsAt k (length l) f) (partsPass k (length l) p) (length l * k) l
-unfolding encodeEach partsAt partsPass
-each-round {k = k} d [] h = record { size = sym (zero-mul k); back = refl; passes = refl }
-each-round {e = e} {f = f} {p = p} {k = k} d (x ∷ l) h =
-    let r = h 0 (omega arith) in
-    let s = each-round {e = e} {f = f} {p = p} {k = k} d l (λ i j. h (suc i) (omega arith)) in
-    let t : take k (e x ++ encodeEach e l) ≡ e x = take-at (e x) (encodeEach e l) k (r .size) in
-    let u : drop k (e x ++ encodeEach e l) ≡ encodeEach e l = drop-at (e x) (encodeEach e l) k (r .size) in
-    record {
-      size = rw (length-append, suc-mul, r .size, s .size, add-comm (length l * k) k);
-      back = rw (t, u, r .back, s .back);
-      passes = rw (t, u, r .passes, s .passes);
-    }
-
--- bytes come back from the entries of their parts
-pub each-back : {A : Type 0} {e : A → List ℕ} {f : List ℕ → A} {p : List ℕ → Bool} {k : ℕ} (n : ℕ) → Back e f p k
-    → Back (encodeEach e) (partsAt k n f) (partsPass k n p) (n * k)
-unfolding encodeEach partsAt partsPass
-each-back {e = e} {f = f} {p = p} {k = k} zero h = record { same = λ b l y t. none b (l ∙ zero-mul k) }
-  where
-    none : (b : List ℕ) → length b ≡ 0 → [] ≡ b
-    none [] l = refl
-    none (x ∷ b) l = absurd (omega arith)
-each-back {e = e} {f = f} {p = p} {k = k} (suc n) h =
-    record {
-      same =
-          λ b l y t.
-          let q = and-true (p (take k b)) _ t in
-          let l′ : length b ≡ n * k + k = l ∙ suc-mul n k in
-          let one : e (f (take k b)) ≡ take k b = h .same (take k b) (length-take-le k b (omega arith)) (bytes-take k b y) (q .0) in
-          let rest : encodeEach e (partsAt k n f (drop k b)) ≡ drop k b =
-          each-back {e = e} {f = f} {p = p} {k = k} n h .same (drop k b) (rw length-drop (omega arith)) (bytes-drop k b y) (q .1)
-          in
-          rw (one, rest) (take-append-drop k b);
-    }

@@ -9,7 +9,7 @@ use Rattle.rules.specs.declared.state.Accumulator.{Accumulator}
 use Rattle.rules.specs.State.{operatorNumber}
 use Rattle.encoding.specs.Bytes.{bytesOf}
 use Rattle.encoding.specs.Encode.{encodeAccumulator}
-use Rattle.encoding.proofs.PartLaws.{Upto, none-yet, store, store-as, put-of, all}
+use Rattle.encoding.proofs.FieldLaws.{Upto, none-yet, store, store-as, put-of, all}
 use borrow.Author.Needs.{needs}
 use Rattle.encoding.proofs.accumulators.put_accumulator.Statement.{statement}
 use Rattle.encoding.proofs.accumulators.put_accumulator.Tie as tie

@@ -8,7 +8,7 @@ use borrow.Rule.Slice.PartMut.{putMid}
 use Rattle.rules.specs.declared.state.Activity.{Activity}
 use Rattle.encoding.specs.Bytes.{bytesOf, encodeEach}
 use Rattle.encoding.specs.Encode.{statusByte, faultByte, encodeHold, encodeActivity}
-use Rattle.encoding.proofs.PartLaws.{Upto, none-yet, store, store-as, put, put-of, all}
+use Rattle.encoding.proofs.FieldLaws.{Upto, none-yet, store, store-as, put, put-of, all}
 use borrow.Author.Needs.{needs}
 use Rattle.encoding.proofs.activities.put_activity.Statement.{statement}
 use Rattle.encoding.proofs.activities.put_activity.Tie as tie

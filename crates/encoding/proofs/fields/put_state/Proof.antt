@@ -8,7 +8,7 @@ use borrow.Rule.Slice.PartMut.{putMid}
 use Rattle.rules.specs.declared.state.State.{State}
 use Rattle.encoding.specs.Bytes.{bytesOf, encodeEach}
 use Rattle.encoding.specs.Encode.{encodeAccumulator, encodeState}
-use Rattle.encoding.proofs.PartLaws.{Upto, none-yet, store, put, put-of, all}
+use Rattle.encoding.proofs.FieldLaws.{Upto, none-yet, store, put, put-of, all}
 use borrow.Author.Needs.{needs}
 use Rattle.encoding.proofs.fields.put_state.Statement.{statement}
 use Rattle.encoding.proofs.fields.put_state.Tie as tie

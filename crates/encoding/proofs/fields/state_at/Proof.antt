@@ -2,7 +2,7 @@
 use native.Mathlib.Omega.{arith}
 use mathlib.Core.Path.{refl}
 use Rattle.encoding.specs.Decode.{stateOf}
-use Rattle.encoding.proofs.PartLaws.{sized}
+use Rattle.encoding.proofs.FieldLaws.{sized}
 use Rattle.encoding.proofs.Passed.{state-passes}
 use borrow.Author.Needs.{needs}
 use Rattle.encoding.proofs.fields.state_at.Statement.{statement}

@@ -4,7 +4,7 @@ use native.Mathlib.Omega.{arith}
 use Rattle.encoding.specs.Bytes.{part}
 use Rattle.encoding.specs.Decode.{frameAt}
 use Rattle.encoding.proofs.NumberLaws.{number-below}
-use Rattle.encoding.proofs.PartLaws.{sized, part-bytes}
+use Rattle.encoding.proofs.FieldLaws.{sized, part-bytes}
 use borrow.Author.Needs.{needs}
 use Rattle.encoding.proofs.frames.frame_at.Statement.{statement}
 use Rattle.encoding.proofs.frames.frame_at.Tie as tie

@@ -8,7 +8,7 @@ use borrow.Rule.Slice.PartMut.{putMid}
 use Rattle.rules.specs.declared.state.Frame.{Frame}
 use Rattle.encoding.specs.Bytes.{bytesOf}
 use Rattle.encoding.specs.Encode.{encodeFrame}
-use Rattle.encoding.proofs.PartLaws.{Upto, none-yet, store, put-of, all}
+use Rattle.encoding.proofs.FieldLaws.{Upto, none-yet, store, put-of, all}
 use borrow.Author.Needs.{needs}
 use Rattle.encoding.proofs.frames.put_frame.Statement.{statement}
 use Rattle.encoding.proofs.frames.put_frame.Tie as tie

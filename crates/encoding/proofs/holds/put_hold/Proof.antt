@@ -9,7 +9,7 @@ use Rattle.rules.specs.declared.state.Hold.{Hold}
 use Rattle.rules.specs.State.{registrationNumber}
 use Rattle.encoding.specs.Bytes.{bytesOf}
 use Rattle.encoding.specs.Encode.{encodeHold}
-use Rattle.encoding.proofs.PartLaws.{Upto, none-yet, store, store-as, put-of, all}
+use Rattle.encoding.proofs.FieldLaws.{Upto, none-yet, store, store-as, put-of, all}
 use borrow.Author.Needs.{needs}
 use Rattle.encoding.proofs.holds.put_hold.Statement.{statement}
 use Rattle.encoding.proofs.holds.put_hold.Tie as tie
