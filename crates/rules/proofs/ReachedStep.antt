@@ -2,7 +2,6 @@
 -- falls.
 use Prim.Native.Nat.{ℕ, _+_, _≤_, _<_}
 use native.Mathlib.Omega.{arith}
-use native.Mathlib.Decide.{ℕ-discrete}
 use mathlib.Core.Bool.{Bool, true, false, cond}
 use mathlib.Core.Path.{_≡_, refl, sym, ap, _∙_, subst}
 use lib.Dec.{ltb, leb}
@@ -30,7 +29,7 @@ use Rattle.rules.proofs.Containment.{held-turned, born-after, Opening}
 use Rattle.rules.proofs.Stack.{Stack}
 use Rattle.rules.proofs.Potential.{pend, pend-ended}
 use Rattle.rules.proofs.Spending.{spent, pendChild, spends, standing, stack-born, Left, left-by, fault-pend}
-use Rattle.rules.proofs.Turn.{Turn, turn, doing, failed, effect-doing, effect-failed}
+use Rattle.rules.proofs.Turn.{turn, doing, failed, by-fault}
 use Rattle.rules.proofs.Sizes.{size-self, size-born, size-stopped}
 use Rattle.rules.proofs.Pending.{total, spent-work, next-makes, spent-own, next-work, work-some, total-applied}
 use Rattle.rules.proofs.Reached.{Inv, Reached}
@@ -244,37 +243,23 @@ module _ (p : Program) (ok : Accepted p) (few : activitiesOf p ≤ 64) (s : Stat
 -- A step that is not turned down keeps the invariant.
 pub reached-step : (p : Program) (ok : Accepted p) → activitiesOf p ≤ 64 → (s : State) → Reached p s → (i : ℕ) → refusal p s i ≡ 0
     → Reached p (applied s i (effect p s i))
-reached-step p ok few s g i e = go (ℕ-discrete (fault p s i) 0)
-  where
-    r : Turn p s i
-    r = turn p s i e
-
-    go : Dec (fault p s i ≡ 0) → Reached p (applied s i (effect p s i))
-    go (yes f) = rw (effect-doing p s i f) (doing-reached p ok few s g i (r .spawned) (r .unended) f)
-    go (no f) = rw (effect-failed p s i f) (failed-reached p ok few s g i (r .spawned) (r .unended) f)
+reached-step p ok few s g i e =
+    let r = turn p s i e in
+    by-fault p s i (λ x. Reached p (applied s i x)) (doing-reached p ok few s g i (r .spawned) (r .unended)) (failed-reached p ok few s g i (r .spawned) (r .unended))
 
 -- WHAT A STEP MAKES AND TAKES
 
 -- There is room for who is spawned.
 pub fits-step : (p : Program) (ok : Accepted p) → activitiesOf p ≤ 64 → (s : State) → Reached p s → (i : ℕ) → refusal p s i ≡ 0 → Fits s (effect p s i .spawned)
 unfolding Fits
-fits-step p ok few s g i e = go (ℕ-discrete (fault p s i) 0)
-  where
-    r : Turn p s i
-    r = turn p s i e
-
-    go : Dec (fault p s i ≡ 0) → Fits s (effect p s i .spawned)
-    go (yes f) = rw (effect-doing p s i f) (doing-fits p ok few s g i (r .spawned) (r .unended))
-    go (no f) = rw (effect-failed p s i f) tt
+fits-step p ok few s g i e =
+    let r = turn p s i e in
+    by-fault p s i (λ x. Fits s (x .spawned)) (λ f. doing-fits p ok few s g i (r .spawned) (r .unended)) (λ f. tt)
 
 -- What is pending after a step is less by 1, by 2 at least where it is a fault.
 pub work-step : (p : Program) (ok : Accepted p) → activitiesOf p ≤ 64 → (s : State) → Reached p s → (i : ℕ) → refusal p s i ≡ 0
     → total ownWork p 1 (applied s i (effect p s i)) + 1 ≤ total ownWork p 1 s
-work-step p ok few s g i e = go (ℕ-discrete (fault p s i) 0)
-  where
-    r : Turn p s i
-    r = turn p s i e
-
-    go : Dec (fault p s i ≡ 0) → total ownWork p 1 (applied s i (effect p s i)) + 1 ≤ total ownWork p 1 s
-    go (yes f) = rw (effect-doing p s i f) (omega (arith, doing-work p ok few s g i (r .spawned) (r .unended)))
-    go (no f) = rw (effect-failed p s i f) (omega (arith, failed-work p ok few s g i (r .spawned) (r .unended) f))
+work-step p ok few s g i e =
+    let r = turn p s i e in
+    by-fault p s i (λ x. total ownWork p 1 (applied s i x) + 1 ≤ total ownWork p 1 s)
+    (λ f. omega (arith, doing-work p ok few s g i (r .spawned) (r .unended))) (λ f. omega (arith, failed-work p ok few s g i (r .spawned) (r .unended) f))

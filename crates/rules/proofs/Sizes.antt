@@ -1,7 +1,6 @@
 -- Arrays keep their sizes over a step.
 use Prim.Native.Nat.{ℕ, suc, _<_, _≤_}
 use native.Mathlib.Omega.{arith}
-use native.Mathlib.Decide.{ℕ-discrete}
 use mathlib.Core.List.{List, [], _∷_}
 use mathlib.Core.Bool.{Bool, true, false, cond}
 use mathlib.Core.Path.{_≡_, refl, sym, ap, _∙_, subst}
@@ -18,12 +17,12 @@ use Rattle.rules.specs.State.{act, absent, top, isAtBarrier}
 use Rattle.rules.specs.Clocks.{pass, quiesce}
 use Rattle.rules.specs.Faults.{Env}
 use Rattle.rules.specs.Effects.{Spawned, nobody, one, spawnedCount, withSpawned, Effect, applied, envOf, child, Write, withWritten, keep, make, offer, reset, pushed, stopped, lent, past, endOf, again, popped, nextOf}
-use Rattle.rules.specs.Steps.{at, fault, effect}
+use Rattle.rules.specs.Steps.{at, effect}
 use Rattle.rules.proofs.Lists.{old, new, stored, Stored}
 use Rattle.rules.proofs.Sized.{Sized, SizedActivity}
 use Rattle.rules.proofs.Shapes.{OfChild, born, length-stores, Alike, Reheld, kept, replaced, Kind, ends, meets, forks, opens, loops, moves, kind}
 use Rattle.rules.proofs.Applied.{Bounded, Fits}
-use Rattle.rules.proofs.Turn.{effect-doing, effect-failed}
+use Rattle.rules.proofs.Turn.{by-fault}
 
 -- A STATE
 
@@ -151,13 +150,7 @@ module _ (p : Program) where
 -- An accepted step, a faulting one too, keeps all sizes.
 pub step-sized : (p : Program) (s : State) → Sized s → (i : ℕ) → i < 64 → Sized (applied s i (effect p s i))
 unfolding OfChild
-step-sized p s z i h = go (ℕ-discrete (fault p s i) 0)
-  where
-    own : SizedActivity (act s i)
-    own = z .each i h
-
-    go : Dec (fault p s i ≡ 0) → Sized (applied s i (effect p s i))
-    go (yes f) =
-        let k = kind p (envOf s) i (act s i) (at p s i .command) (at p s i .inner) in
-        rw (effect-doing p s i f) (sized-applied s z i _ (size-self p own k) (size-born p own k))
-    go (no f) = rw (effect-failed p s i f) (sized-applied s z i _ (size-stopped (act s i) _ own) tt)
+step-sized p s z i h =
+    let own = z .each i h in
+    let k = kind p (envOf s) i (act s i) (at p s i .command) (at p s i .inner) in
+    by-fault p s i (λ x. Sized (applied s i x)) (λ f. sized-applied s z i _ (size-self p own k) (size-born p own k)) (λ f. sized-applied s z i _ (size-stopped (act s i) _ own) tt)

@@ -1,6 +1,7 @@
 -- Who may step, and what the step does: its command's effect, or a fault.
 use Prim.Native.Nat.{ℕ, _<_}
 use native.Mathlib.Omega.{arith}
+use native.Mathlib.Decide.{ℕ-discrete}
 use mathlib.Core.Bool.{Bool, true, false, cond}
 use mathlib.Core.Path.{_≡_, refl}
 use lib.Dec.{ltb}
@@ -51,6 +52,14 @@ effect-doing p s i e = rw (eq-eqb _ _ e)
 pub effect-failed : (p : Program) (s : State) (i : ℕ) → (fault p s i ≡ 0 → ⊥) → effect p s i ≡ failed p s i
 unfolding effect
 effect-failed p s i e = rw (ne-eqb _ _ e)
+
+-- So a fact of both is one of the step's effect.
+pub by-fault : (p : Program) (s : State) (i : ℕ) (P : Effect → Type 0) → (fault p s i ≡ 0 → P (doing p s i)) → ((fault p s i ≡ 0 → ⊥) → P (failed p s i)) → P (effect p s i)
+by-fault p s i P f g = go (ℕ-discrete (fault p s i) 0)
+  where
+    go : Dec (fault p s i ≡ 0) → P (effect p s i)
+    go (yes e) = rw (effect-doing p s i e) (f e)
+    go (no e) = rw (effect-failed p s i e) (g e)
 
 -- The state after the step.
 abbrev pub after : Program → State → ℕ → State

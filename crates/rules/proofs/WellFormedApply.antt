@@ -1,7 +1,6 @@
 -- A step of a well-formed state: what there is room for, its shape, and the counts and accumulators after it.
 use Prim.Native.Nat.{ℕ, _+_, _-_, _≤_, _<_}
 use native.Mathlib.Omega.{arith}
-use native.Mathlib.Decide.{ℕ-discrete}
 use mathlib.Core.Bool.{Bool, true, false, _&&_}
 use mathlib.Core.Path.{_≡_, refl, sym, ap, _∙_}
 use lib.ListN.{length, getD, set}
@@ -21,7 +20,7 @@ use Rattle.rules.specs.Steps.{Limits, at, fault, effect, spawns, makes, 
 use Rattle.rules.proofs.Tests.{and-false, or-false}
 use Rattle.rules.proofs.Search.{someBelow-none}
 use Rattle.rules.proofs.Lists.{Stored, new, old, stored}
-use Rattle.rules.proofs.Turn.{effect-doing, effect-failed}
+use Rattle.rules.proofs.Turn.{by-fault}
 use Rattle.rules.proofs.WellFormedPlaces.{placed-sound}
 use Rattle.rules.proofs.WellFormedFacts.{Facts}
 use Rattle.rules.proofs.WellFormedShape.{Shape, fails, shape, Naming, keeps, adds, offers, resets}
@@ -66,14 +65,10 @@ module _ {limit : ℕ} {p : Program} {s : State} (ok : Accepted p) (f : Facts li
   -- what its step does has a shape, a fault too
   pub step-shape : i < s .activities → ended s i ≡ false → Shape p s i (act s i) (here p (top (act s i)) .command) (effect p s i)
   unfolding fault at
-  step-shape l u = go (ℕ-discrete (fault p s i) 0)
-    where
-      go : Dec (fault p s i ≡ 0) → Shape p s i (act s i) (here p (top (act s i)) .command) (effect p s i)
-      go (yes e) =
-          rw (effect-doing p s i e)
-          (shape p s i (act s i) u (f .spawned i l .bounds) (here p (top (act s i)) .command) (here p (top (act s i)) .inner) (f .spawned i l .barrier)
-          (at-sound l u .ranged) e)
-      go (no e) = rw (effect-failed p s i e) (fails _ refl)
+  step-shape l u =
+      by-fault p s i (Shape p s i (act s i) (here p (top (act s i)) .command))
+      (shape p s i (act s i) u (f .spawned i l .bounds) (here p (top (act s i)) .command) (here p (top (act s i)) .inner) (f .spawned i l .barrier) (at-sound l u .ranged))
+      (λ e. fails _ refl)
 
 -- COUNTS
 
