@@ -117,7 +117,7 @@ static int zeros(void)
     size_t k, other = 0;
     for (k = 1; k < STATE; k++)
         other += state[k] != 0;
-    return state[0] == 1 && other == 0 && state[STATE] == 0xA5;
+    return state[0] == STEPMACHINE_STATE_VERSION && other == 0 && state[STATE] == 0xA5;
 }
 
 /* A refused start leaves the state of zeros, in which nobody can step. */

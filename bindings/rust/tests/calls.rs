@@ -1,7 +1,7 @@
 // What each call answers and leaves, on document 01's printed table.
 #![forbid(unsafe_code)]
 
-use stepmachine::{ready, registrations, run, start, step, State};
+use stepmachine::{ready, registrations, run, start, step, State, VERSION};
 
 const TABLE: [u8; 10] = [0x02, 0x02, 0x00, 0x05, 0x01, 0x01, 0x01, 0x00, 0x01, 0x00];
 const ORDER: [u8; 10] = [0, 0, 0, 0, 1, 0, 0, 1, 1, 0];
@@ -24,7 +24,7 @@ fn after(steps: usize) -> State {
 fn a_refused_start_leaves_the_state_of_zeros() {
     let mut state = [0xA5; 13776];
     assert_eq!(start(&REFUSED, &mut state), 2);
-    assert_eq!(state[0], 1);
+    assert_eq!(state[0], VERSION);
     assert!(state[1..].iter().all(|&byte| byte == 0));
     assert_eq!(step(&TABLE, &mut state, 0), 14);
 }
@@ -42,7 +42,7 @@ fn a_refused_step_leaves_every_byte() {
 #[test]
 fn bytes_that_encode_no_state_give_13() {
     let mut state = after(3);
-    state[0] = 2;
+    state[0] = VERSION + 1;
     let before = state;
     assert_eq!(step(&TABLE, &mut state, 1), 13);
     assert!(state == before);
