@@ -12,6 +12,7 @@
 #include <stddef.h>
 #include <stdint.h>
 
+#define STEPMACHINE_STATE_VERSION 1
 #define STEPMACHINE_STATE_BYTES 13776
 #define STEPMACHINE_SHEET_BYTES 1024
 

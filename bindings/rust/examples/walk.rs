@@ -1,4 +1,6 @@
 // Document 01's printed table, one step a call.
+#![forbid(unsafe_code)]
+
 const TABLE: [u8; 10] = [0x02, 0x02, 0x00, 0x05, 0x01, 0x01, 0x01, 0x00, 0x01, 0x00];
 const ORDER: [u8; 10] = [0, 0, 0, 0, 1, 0, 0, 1, 1, 0];
 

@@ -3,6 +3,9 @@
 //! Each call answers the paper's number: 0, 100 plus f for fault f, or 1 to 17. A refused call leaves every lent byte as it
 //! was; only a refused start writes, the state of zeros.
 
+/// The version of the layout, a state's first byte.
+pub const VERSION: u8 = 1;
+
 /// A state as bytes.
 pub type State = [u8; 13776];
 

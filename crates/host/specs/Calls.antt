@@ -1,4 +1,4 @@
--- What the calls over lent bytes answer, and the bytes that they leave.
+-- The calls over lent bytes: the number that each answers, and the bytes that it leaves. t is a table, b a state's buffer, each as it was lent.
 use Prim.Native.Nat.{ℕ}
 use mathlib.Core.List.{List}
 use mathlib.Core.Bool.{Bool, true, false, cond, _&&_}
@@ -19,7 +19,7 @@ use Rattle.encoding.specs.Bytes.{encodeEach}
 use Rattle.encoding.specs.Encode.{encodeState}
 use Rattle.encoding.specs.Decode.{encodes, stateOf}
 
--- whether a buffer has room for a state
+-- "a buffer of exactly 13,776 bytes"
 unfoldable pub fitsState : List ℕ → Bool
 fitsState b = eqb (length b) 13776
 
@@ -27,17 +27,19 @@ fitsState b = eqb (length b) 13776
 unfoldable pub unfitNumber : List ℕ → ℕ
 unfitNumber t = cond (eqb (numberOf 65535 t) 0) 13 (numberOf 65535 t)
 
--- START
+-- START: the start state of the table
 
+-- 0 or 1 to 12; 13 for a buffer of another length
 unfoldable pub startNumber : List ℕ → List ℕ → ℕ
 startNumber t b = cond (fitsState b) (answerNumber (start base t .answer)) (unfitNumber t)
 
--- A refused start too leaves a state, that of zeros.
+-- The start state; a refused start too leaves a state, that of zeros. A buffer of another length stays as it was.
 unfoldable pub startBytes : List ℕ → List ℕ → List ℕ
 startBytes t b = cond (fitsState b) (encodeState (start base t .state)) b
 
--- STEP
+-- STEP: one step of activity i in the state that the bytes encode
 
+-- 0, 100 plus the fault, or 1 to 17; 13 for bytes that encode no state
 unfoldable pub stepNumber : List ℕ → List ℕ → ℕ → ℕ
 stepNumber t b i = cond (encodes b) (answerNumber (step base t (stateOf b) i .answer)) (unfitNumber t)
 
@@ -45,11 +47,13 @@ stepNumber t b i = cond (encodes b) (answerNumber (step base t (stateOf b) i .an
 unfoldable pub bytesAfter : Stepped → List ℕ → List ℕ
 bytesAfter done b = cond (isAccepted (done .answer)) (encodeState (done .state)) b
 
+-- Bytes that encode no state stay as they were.
 unfoldable pub stepBytes : List ℕ → List ℕ → ℕ → List ℕ
 stepBytes t b i = cond (encodes b) (bytesAfter (step base t (stateOf b) i) b) b
 
--- READY
+-- READY: who can step, bit i for activity i
 
+-- 0 or 1 to 13; 13 for bytes that encode no state
 unfoldable pub readyNumber : List ℕ → List ℕ → ℕ
 readyNumber t b = cond (encodes b) (ready base t (stateOf b) .number) (unfitNumber t)
 
@@ -57,12 +61,13 @@ readyNumber t b = cond (encodes b) (ready base t (stateOf b) .number) (unfitNumb
 unfoldable pub setAfter : Ready → ℕ → ℕ
 setAfter found before = cond (eqb (found .number) 0) (found .set) before
 
+-- before: the set as it was lent
 unfoldable pub readySet : List ℕ → List ℕ → ℕ → ℕ
 readySet t b before = cond (encodes b) (setAfter (ready base t (stateOf b)) before) before
 
--- REGISTRATIONS
+-- REGISTRATIONS: the standing sheet, sixty-four rows of sixteen bytes, row by row
 
--- The sheet stands row by row.
+-- a row's bytes are its entries
 abbrev pub rowBytes : List ℕ → List ℕ
 rowBytes row = row
 
@@ -70,6 +75,7 @@ rowBytes row = row
 unfoldable pub fitsSheet : List ℕ → List ℕ → Bool
 fitsSheet b sheet = eqb (length sheet) 1024 && encodes b
 
+-- 0 or 1 to 13; 13 for buffers that do not serve
 unfoldable pub sheetNumber : List ℕ → List ℕ → List ℕ → ℕ
 sheetNumber t b sheet = cond (fitsSheet b sheet) (registrationsNumber base t (stateOf b)) (unfitNumber t)
 
@@ -77,25 +83,29 @@ sheetNumber t b sheet = cond (fitsSheet b sheet) (registrationsNumber base t (st
 unfoldable pub sheetAfter : List ℕ → State → List ℕ → List ℕ
 sheetAfter t s sheet = cond (eqb (registrationsNumber base t s) 0) (encodeEach rowBytes (registrations base t s)) sheet
 
+-- sheet: the buffer for the sheet, as it was lent
 unfoldable pub sheetBytes : List ℕ → List ℕ → List ℕ → List ℕ
 sheetBytes t b sheet = cond (fitsSheet b sheet) (sheetAfter t (stateOf b) sheet) sheet
 
--- RUN
+-- RUN: the start, and a step for each byte of the order
 
--- 13 where the answers have too little room
+-- how a run ended, as a number: 13 where the answers have too little room
 abbrev pub completionNumber : Completion → ℕ
 completionNumber Done = 0
 completionNumber (Refused n) = n
 completionNumber Short = 13
 
+-- whether it came to its end
 abbrev pub isDone : Completion → Bool
 isDone Done = true
 isDone (Refused n) = false
 isDone Short = false
 
+-- 0 or 1 to 12; 13 for a state's buffer of another length or too little room for the answers
 unfoldable pub runNumber : List ℕ → List ℕ → ℕ → List ℕ → ℕ
 runNumber t order room b = cond (fitsState b) (completionNumber (ranOf t order room .completion)) (unfitNumber t)
 
+-- a byte for each step's answer; a refused run leaves the buffer as it was
 unfoldable pub runAnswers : List ℕ → List ℕ → List ℕ → List ℕ → List ℕ
 runAnswers t order buffer b = cond (fitsState b) (answered t order buffer) buffer
 
@@ -103,5 +113,6 @@ runAnswers t order buffer b = cond (fitsState b) (answered t order buffer) buffe
 unfoldable pub bytesRan : Ran → List ℕ → List ℕ
 bytesRan ran b = cond (isDone (ran .completion)) (encodeState (ran .state)) b
 
+-- A buffer of another length stays as it was.
 unfoldable pub runBytes : List ℕ → List ℕ → ℕ → List ℕ → List ℕ
 runBytes t order room b = cond (fitsState b) (bytesRan (ranOf t order room) b) b
