@@ -1,17 +1,13 @@
 //! What a run contains: its commands, its faults, and how activities meet in it.
 
+mod call;
+
 use std::collections::BTreeMap;
 
-use reference::state::{Activity, Hold, Registration, Standing, State};
+use reference::state::{Registration, State};
 use reference::table::{CellCommand, Command, Table};
 
-/// A call of a step in a run.
-struct Call<'a> {
-    table: &'a Table,
-    before: &'a State,
-    activity: usize,
-    answer: u8,
-}
+use call::Call;
 
 /// Whether a call shows a feature.
 type Test = fn(&Call) -> bool;
@@ -128,7 +124,7 @@ const FEATURES: &[(&str, Test)] = &[
     ("a clock lent in a later phase", |c| {
         c.lends() > 0 && c.own().held().any(|hold| hold.phase > 0)
     }),
-    ("a clock lent on by one that it was lent to", |c| {
+    ("a clock lent by a spawned activity", |c| {
         c.lends() > 0 && c.activity > 0
     }),
     ("a clock held back at ASYNC", |c| {
@@ -150,7 +146,7 @@ const FEATURES: &[(&str, Test)] = &[
     ("END of a holder while another is at a meeting", |c| {
         c.does(|x| *x == Command::End) && c.own().depth == 1 && c.others_meet()
     }),
-    ("CLOCK on a name used before", |c| {
+    ("CLOCK of a 5th clock or later", |c| {
         c.does(|x| matches!(x, Command::Clock(_))) && c.before.clocks > 3
     }),
     ("ASYNC in an own FINISH", |c| {
@@ -251,192 +247,4 @@ fn is_read(command: &Command) -> bool {
 
 fn is_reset(command: &Command) -> bool {
     matches!(command, Command::Reset(_))
-}
-
-impl Call<'_> {
-    fn spawned(&self) -> Option<&Activity> {
-        self.before.spawned().get(self.activity)
-    }
-
-    /// The activity; only for one that was spawned.
-    fn own(&self) -> &Activity {
-        &self.before.acts[self.activity]
-    }
-
-    fn command(&self) -> Option<&Command> {
-        let top = self.spawned()?.top()?;
-        let place = self.table.place(top.body, top.offset)?;
-        Some(&place.command)
-    }
-
-    /// Whether a command of this kind was done.
-    fn does(&self, kind: fn(&Command) -> bool) -> bool {
-        self.answer == 0 && self.command().is_some_and(kind)
-    }
-
-    fn faults(&self, fault: u8, kind: fn(&Command) -> bool) -> bool {
-        self.answer == 100 + fault && self.command().is_some_and(kind)
-    }
-
-    fn waits(&self, kind: fn(&Command) -> bool) -> bool {
-        self.answer == 16 && self.command().is_some_and(kind)
-    }
-
-    /// Whether a NEXT was passed.
-    fn passes(&self) -> bool {
-        self.does(|x| *x == Command::Next) && self.own().standing == Standing::Meeting
-    }
-
-    /// Whether some clock is held both by this activity and by another, in this way.
-    fn some_hold(&self, test: impl Fn(&Hold, &Hold) -> bool) -> bool {
-        let others = self.before.spawned().iter().enumerate();
-        let mut holds = others
-            .filter(|(i, _)| *i != self.activity)
-            .flat_map(|(_, other)| other.held());
-        holds.any(|other| {
-            let mut own = self.own().held();
-            own.any(|own| own.clock == other.clock && test(own, other))
-        })
-    }
-
-    /// The most holders of one of the own clocks.
-    fn company(&self) -> usize {
-        let holders = |clock| {
-            let spawned = self.before.spawned().iter();
-            spawned
-                .filter(|a| a.held().any(|h| h.clock == clock))
-                .count()
-        };
-        self.own()
-            .held()
-            .map(|h| holders(h.clock))
-            .max()
-            .unwrap_or(0)
-    }
-
-    /// Whether another holder of an own clock is at a meeting.
-    fn others_meet(&self) -> bool {
-        let mut others = self.before.spawned().iter().enumerate();
-        others.any(|(i, other)| {
-            let shared = |h: &Hold| self.own().held().any(|own| own.clock == h.clock);
-            i != self.activity && other.standing == Standing::Meeting && other.held().any(shared)
-        })
-    }
-
-    /// Whether the mask of an ASYNC names a clock name that stands so.
-    fn asks(&self, registration: Registration) -> bool {
-        let mask = match self.command() {
-            Some(Command::Async { mask, .. }) => *mask,
-            _ => 0,
-        };
-        let mut holds = self.own().holds.iter().enumerate();
-        holds.any(|(k, hold)| mask >> k & 1 == 1 && hold.registration == registration)
-    }
-
-    /// How many clocks were lent.
-    fn lends(&self) -> usize {
-        match self.command() {
-            Some(Command::Async { mask, .. }) if self.answer == 0 => mask.count_ones() as usize,
-            _ => 0,
-        }
-    }
-
-    /// The hold under the name in the command.
-    fn named_hold(&self) -> Option<&Hold> {
-        match self.command()? {
-            Command::Resume(c) | Command::Drop(c) => Some(&self.own().holds[usize::from(*c)]),
-            _ => None,
-        }
-    }
-
-    /// The bodies on the stack that a command of this kind runs.
-    fn stacked(&self, kind: fn(&Command) -> bool) -> usize {
-        let Some((_, below)) = self.spawned().and_then(|own| own.stack().split_last()) else {
-            return 0;
-        };
-        let place = |f: &reference::state::Frame| self.table.place(f.body, f.offset);
-        let commands = below.iter().filter_map(place);
-        commands.filter(|place| kind(&place.command)).count()
-    }
-
-    fn finishes(&self) -> usize {
-        self.stacked(|x| matches!(x, Command::Finish { .. }))
-    }
-
-    fn repeats(&self) -> usize {
-        self.stacked(|x| matches!(x, Command::Repeat { .. }))
-    }
-
-    /// Whether the top body is a FINISH's.
-    fn tops_finish(&self) -> bool {
-        let top = self.spawned().and_then(Activity::top);
-        top.is_some_and(|frame| frame.first > 0)
-    }
-
-    fn top_runs(&self) -> u8 {
-        self.own().top().map_or(0, |frame| frame.runs)
-    }
-
-    /// The activities below this one, by number.
-    fn descendants(&self) -> Vec<usize> {
-        let mut family = vec![self.activity];
-        for (i, other) in self.before.spawned().iter().enumerate().skip(1) {
-            if family.contains(&usize::from(other.spawner)) {
-                family.push(i);
-            }
-        }
-        family.split_off(1)
-    }
-
-    fn has_child(&self) -> bool {
-        let mut spawned = self.before.spawned().iter().skip(1);
-        spawned.any(|other| usize::from(other.spawner) == self.activity)
-    }
-
-    fn unended_below(&self) -> bool {
-        let acts = &self.before.acts;
-        self.descendants().iter().any(|&i| !acts[i].has_ended())
-    }
-
-    /// Whether all unended descendants have a spawner that has ended.
-    fn orphans(&self) -> bool {
-        let acts = &self.before.acts;
-        let mut unended = self.descendants();
-        unended.retain(|&i| !acts[i].has_ended());
-        unended
-            .iter()
-            .all(|&i| acts[usize::from(acts[i].spawner)].has_ended())
-    }
-
-    /// The accumulator under the name in the command.
-    fn named_accumulator(&self) -> Option<usize> {
-        let name = match self.command()? {
-            Command::Acc { name, .. } => *name,
-            Command::Offer(a) | Command::Read(a) | Command::Reset(a) => *a,
-            _ => return None,
-        };
-        self.own().bound(name).map(usize::from)
-    }
-
-    fn owns_named(&self) -> bool {
-        let number = self.named_accumulator();
-        number.is_some_and(|n| usize::from(self.before.accs[n].owner) == self.activity)
-    }
-
-    fn offers_to(&self, operator: u8) -> bool {
-        let offer = self.does(|x| matches!(x, Command::Offer(_)));
-        let number = self.named_accumulator();
-        offer && number.is_some_and(|n| self.before.accs[n].operator.byte() == operator)
-    }
-
-    fn wraps(&self) -> bool {
-        let number = self.named_accumulator();
-        let value = number.map_or(0, |n| self.before.accs[n].value);
-        value.checked_add(self.own().hand).is_none()
-    }
-
-    fn rebinds(&self) -> bool {
-        let acc = self.does(|x| matches!(x, Command::Acc { .. }));
-        acc && self.named_accumulator().is_some()
-    }
 }

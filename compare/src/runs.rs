@@ -13,8 +13,8 @@ use crate::points::{step_agrees, views_agree, Job};
 use crate::tally::Tally;
 
 /// A run is compared at as many of its first points as its table's length allows: each call reads the table.
-const MOST: usize = 1_000;
-const READ: usize = 200_000;
+const MOST: usize = 500;
+const READ: usize = 80_000;
 /// Longer than the longest work: a run to its end with a few numbers turned down.
 const WHOLE: usize = 70_000;
 
@@ -33,7 +33,7 @@ pub fn table_agrees(seed: u64, index: u64, tally: &mut Tally) {
 }
 
 /// Every call turns the table down with its number and leaves what is lent.
-fn refused_agrees(table: &[u8], number: u8) {
+pub fn refused_agrees(table: &[u8], number: u8) {
     for state in [encode(&rules::start()), Vec::new()] {
         let mut after = state.clone();
         assert_eq!(machine::step(table, &mut after, 0), number);

@@ -10,12 +10,12 @@ mod faults;
 mod limits;
 mod orders;
 mod rng;
+mod strain;
 mod tables;
 
-pub use damage::{
-    damage_names, damage_state, damage_state_by, limit_cases, strain_state, LimitCase,
-};
+pub use damage::{damage_names, damage_state, damage_state_by};
 pub use limits::limit_table;
 pub use orders::{order, order_bytes, random_order, OrderKind};
 pub use rng::Rng;
+pub use strain::{limit_cases, strain_state, LimitCase};
 pub use tables::{damaged_table, fault_table, noise_table, program_table, random_table};
