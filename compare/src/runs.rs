@@ -2,6 +2,7 @@
 
 use reference::bytes::{encode, start};
 use reference::calls;
+use reference::fit::is_fit;
 use reference::generate::{order, order_bytes, random_order, random_table, OrderKind, Rng};
 use reference::rules;
 use reference::state::State;
@@ -13,10 +14,10 @@ use crate::points::{step_agrees, views_agree, Job};
 use crate::tally::Tally;
 
 /// A run is compared at as many of its first points as its table's length allows: each call reads the table.
-const MOST: usize = 500;
-const READ: usize = 80_000;
-/// Longer than the longest work: a run to its end with a few numbers turned down.
-const WHOLE: usize = 70_000;
+const MOST: usize = 300;
+const READ: usize = 60_000;
+/// Longer than the longest work: a run to its end, with numbers in between that are turned down.
+const WHOLE: usize = 110_000;
 
 /// The random things of one index: a table, its run, and damaged states of it.
 pub fn table_agrees(seed: u64, index: u64, tally: &mut Tally) {
@@ -66,6 +67,7 @@ fn run_agrees(job: &Job, order: &[usize], kept: Vec<usize>, tally: &mut Tally) -
     let mut answers = Vec::with_capacity(order.len());
     let mut points = Vec::new();
     for (k, &activity) in order.iter().enumerate() {
+        assert!(is_fit(&job.table, &state), "{}: point {k}", job.name);
         views_agree(job, &bytes, Some(&state));
         if kept.contains(&k) {
             points.push(bytes.clone());
@@ -104,5 +106,6 @@ fn one_call_agrees(job: &Job, order: &[usize], answers: &[u8], state: &State) {
 fn whole_agrees(job: &Job, rng: &mut Rng) {
     let order = order(rng, &job.bytes, OrderKind::Nonsense, WHOLE);
     let run = calls::run(&job.bytes, &order).expect("an accepted table");
+    assert!(run.state.is_finished(), "{}: the whole run", job.name);
     one_call_agrees(job, &order, &run.answers, &run.state);
 }

@@ -33,6 +33,11 @@ const OTHERS: &[u8] = &[3, 8, 0, 0, 5, 1, 0, 0, 2, 3, 5, 2, 0, 10, 0, 10, 1, 0, 
 /// Main reads its own accumulator while it holds a clock and has a child.
 const HOLDER: &[u8] = &[2, 8, 0, 0, 2, 0, 5, 1, 0, 11, 0, 0, 0];
 
+/// Main waits at the END of a FINISH body for a child's child.
+const BELOW: &[u8] = &[4, 6, 1, 0, 5, 2, 0, 0, 5, 3, 0, 0, 13, 0, 0];
+/// Main waits at RESET for a child's child.
+const RESETTER: &[u8] = &[3, 8, 0, 0, 5, 1, 0, 11, 0, 0, 5, 2, 0, 0, 13, 0, 0];
+
 fn nothing(_: &mut State) {}
 
 fn all_steps(state: &mut State) {
@@ -218,6 +223,27 @@ pub const CASES: &[Case] = &[
             s.acts[0].frames[1].first = 0;
         },
         (0, 16),
+    ),
+    case(
+        "16 at END for a child's child",
+        BELOW,
+        &[0, 0, 1, 1],
+        nothing,
+        (0, 16),
+    ),
+    case(
+        "16 at RESET for a child's child",
+        RESETTER,
+        &[0, 0, 1, 1],
+        nothing,
+        (0, 16),
+    ),
+    case(
+        "RESET once it has ended",
+        RESETTER,
+        &[0, 0, 1, 1, 2, 2],
+        nothing,
+        (0, 0),
     ),
     // Number 17
     case(
