@@ -2,16 +2,20 @@
 //!
 //! The same seed always gives the same tables, orders and states.
 
+mod author;
+mod codes;
+mod context;
 mod damage;
+mod faults;
+mod limits;
 mod orders;
 mod rng;
+mod strain;
 mod tables;
 
-pub use damage::{
-    damage_names, damage_state, damage_state_by, limit_cases, strain_state, LimitCase,
-};
+pub use damage::{damage_names, damage_state, damage_state_by};
+pub use limits::limit_table;
 pub use orders::{order, order_bytes, random_order, OrderKind};
 pub use rng::Rng;
-pub use tables::{
-    damaged_table, fault_table, limit_table, noise_table, program_table, random_table,
-};
+pub use strain::{limit_cases, strain_state, LimitCase};
+pub use tables::{damaged_table, fault_table, noise_table, program_table, random_table};

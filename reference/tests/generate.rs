@@ -4,8 +4,8 @@ use reference::bytes::{decode, encode};
 use reference::calls::run;
 use reference::fit::is_fit;
 use reference::generate::{
-    damage_names, damage_state, damage_state_by, fault_table, limit_table, order, random_order,
-    random_table, strain_state, OrderKind, Rng,
+    damage_names, damage_state, damage_state_by, fault_table, limit_table, order, program_table,
+    random_order, random_table, strain_state, OrderKind, Rng,
 };
 use reference::table::{count, Table};
 
@@ -41,6 +41,41 @@ fn each_fault_is_met() {
         });
         assert!(met.count() > 50, "F{fault}");
     }
+}
+
+#[test]
+fn every_kind_of_order_ends_a_run() {
+    let mut rng = Rng::new(3);
+    for kind in OrderKind::ALL {
+        for _ in 0..50 {
+            let table = program_table(&mut rng);
+            let order = order(&mut rng, &table, kind, 100_000);
+            let run = run(&table, &order);
+            assert!(run.map_or(true, |run| run.state.is_finished()), "{kind:?}");
+        }
+    }
+}
+
+#[test]
+fn impatient_orders_meet_waits() {
+    let mut rng = Rng::new(4);
+    let met = (0..200).filter(|_| {
+        let table = program_table(&mut rng);
+        let order = order(&mut rng, &table, OrderKind::Impatient, 10_000);
+        run(&table, &order).is_ok_and(|run| run.answers.contains(&16))
+    });
+    assert!(met.count() > 60);
+}
+
+#[test]
+fn each_number_of_a_table_is_met() {
+    let mut rng = Rng::new(6);
+    let mut met = [0; 13];
+    for _ in 0..6_000 {
+        let number = Table::read(&random_table(&mut rng)).map_or_else(|r| r.number(), |_| 0);
+        met[usize::from(number)] += 1;
+    }
+    assert!(met.iter().all(|&times| times > 5), "{met:?}");
 }
 
 #[test]

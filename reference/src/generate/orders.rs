@@ -11,7 +11,9 @@ pub enum OrderKind {
     Drive,
     /// A random unended activity each time, ready or not.
     Careless,
-    /// Each spawned activity in turn, ready or not.
+    /// An activity that waits, in half of the cases where there is one; else one that is ready.
+    Impatient,
+    /// Each unended activity in turn, ready or not.
     RoundRobin,
     /// The lowest ready activity each time.
     LowestFirst,
@@ -22,9 +24,10 @@ pub enum OrderKind {
 }
 
 impl OrderKind {
-    pub const ALL: [OrderKind; 6] = [
+    pub const ALL: [OrderKind; 7] = [
         OrderKind::Drive,
         OrderKind::Careless,
+        OrderKind::Impatient,
         OrderKind::RoundRobin,
         OrderKind::LowestFirst,
         OrderKind::HighestFirst,
@@ -84,8 +87,15 @@ fn choose(
     let is_ready = |&i: &usize| rules::is_ready(table, state, i);
     match kind {
         OrderKind::Drive => random_ready(rng, table, state),
-        OrderKind::Careless => random_unended(rng, state),
-        OrderKind::RoundRobin => Some(turn % spawned),
+        OrderKind::Careless => rng.choose(&unended(state)),
+        OrderKind::Impatient => {
+            let waiting = random_waiting(rng, table, state).filter(|_| rng.chance(50));
+            waiting.or_else(|| random_ready(rng, table, state))
+        }
+        OrderKind::RoundRobin => {
+            let unended = unended(state);
+            unended.get(turn % unended.len().max(1)).copied()
+        }
         OrderKind::LowestFirst => (0..spawned).find(is_ready),
         OrderKind::HighestFirst => (0..spawned).rev().find(is_ready),
         OrderKind::Nonsense if rng.chance(30) => Some(nonsense(rng)),
@@ -107,13 +117,19 @@ fn random_ready(rng: &mut Rng, table: &Table, state: &State) -> Option<usize> {
     rng.choose(&members)
 }
 
-fn random_unended(rng: &mut Rng, state: &State) -> Option<usize> {
+fn random_waiting(rng: &mut Rng, table: &Table, state: &State) -> Option<usize> {
+    let ready = rules::ready(table, state);
+    let mut waiting = unended(state);
+    waiting.retain(|i| ready >> i & 1 == 0);
+    rng.choose(&waiting)
+}
+
+fn unended(state: &State) -> Vec<usize> {
     let spawned = state.spawned().iter().enumerate();
-    let unended: Vec<usize> = spawned
+    spawned
         .filter(|(_, activity)| !activity.has_ended())
         .map(|(i, _)| i)
-        .collect();
-    rng.choose(&unended)
+        .collect()
 }
 
 fn nonsense(rng: &mut Rng) -> usize {

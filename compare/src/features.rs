@@ -1,0 +1,250 @@
+//! What a run contains: its commands, its faults, and how activities meet in it.
+
+mod call;
+
+use std::collections::BTreeMap;
+
+use reference::state::{Registration, State};
+use reference::table::{CellCommand, Command, Table};
+
+use call::Call;
+
+/// Whether a call shows a feature.
+type Test = fn(&Call) -> bool;
+
+/// The features with their tests.
+const FEATURES: &[(&str, Test)] = &[
+    ("END", |c| c.does(|x| *x == Command::End)),
+    ("NEXT", |c| c.does(|x| *x == Command::Next)),
+    ("CLOCK", |c| c.does(|x| matches!(x, Command::Clock(_)))),
+    ("RESUME", |c| c.does(|x| matches!(x, Command::Resume(_)))),
+    ("DROP", |c| c.does(|x| matches!(x, Command::Drop(_)))),
+    ("ASYNC", |c| c.does(|x| matches!(x, Command::Async { .. }))),
+    ("FINISH", |c| {
+        c.does(|x| matches!(x, Command::Finish { .. }))
+    }),
+    ("REPEAT", |c| {
+        c.does(|x| matches!(x, Command::Repeat { .. }))
+    }),
+    ("ACC", |c| c.does(|x| matches!(x, Command::Acc { .. }))),
+    ("OFFER", |c| c.does(|x| matches!(x, Command::Offer(_)))),
+    ("READ", |c| c.does(is_read)),
+    ("RESET", |c| c.does(is_reset)),
+    ("PUT", |c| c.does(|x| matches!(x, Command::Put(_)))),
+    ("FETCH", |c| {
+        c.does(|x| matches!(x, Command::Cell(CellCommand::Fetch(_))))
+    }),
+    ("STORE", |c| {
+        c.does(|x| matches!(x, Command::Cell(CellCommand::Store(_))))
+    }),
+    ("ADD", |c| {
+        c.does(|x| matches!(x, Command::Cell(CellCommand::Add(_))))
+    }),
+    ("ATOM", |c| c.does(|x| matches!(x, Command::Atom(_)))),
+    ("F1 of RESUME", |c| {
+        c.faults(1, |x| matches!(x, Command::Resume(_)))
+    }),
+    ("F1 of DROP", |c| {
+        c.faults(1, |x| matches!(x, Command::Drop(_)))
+    }),
+    ("F1 of ASYNC", |c| {
+        c.faults(1, |x| matches!(x, Command::Async { .. }))
+    }),
+    ("F2", |c| c.faults(2, |_| true)),
+    ("F3", |c| c.faults(3, |_| true)),
+    ("F4", |c| c.faults(4, |_| true)),
+    ("F5 of OFFER", |c| {
+        c.faults(5, |x| matches!(x, Command::Offer(_)))
+    }),
+    ("F5 of READ", |c| c.faults(5, is_read)),
+    ("F5 of RESET", |c| c.faults(5, is_reset)),
+    ("F6 of READ", |c| c.faults(6, is_read)),
+    ("F6 of RESET", |c| c.faults(6, is_reset)),
+    ("F7 of READ", |c| c.faults(7, is_read)),
+    ("F7 of RESET", |c| c.faults(7, is_reset)),
+    ("F1 where F2 applies too", |c| {
+        c.answer == 101 && c.asks(Registration::Quiesced)
+    }),
+    ("F3 where F1 applies too", |c| {
+        c.answer == 103 && c.asks(Registration::Free)
+    }),
+    ("a fault by one of several holders", |c| {
+        c.answer > 100 && c.company() > 1
+    }),
+    ("a fault with unended descendants", |c| {
+        c.answer > 100 && c.unended_below()
+    }),
+    ("number 14", |c| c.answer == 14),
+    ("number 15", |c| c.answer == 15),
+    ("waiting at NEXT", |c| c.waits(|x| *x == Command::Next)),
+    ("waiting at NEXT for a holder in an earlier phase", |c| {
+        c.waits(|x| *x == Command::Next) && c.some_hold(|own, other| other.phase < own.phase)
+    }),
+    ("waiting at the END of a FINISH body", |c| {
+        c.waits(|x| *x == Command::End)
+    }),
+    ("waiting at END for one whose spawner has ended", |c| {
+        c.waits(|x| *x == Command::End) && c.orphans()
+    }),
+    ("waiting at READ", |c| c.waits(is_read)),
+    ("waiting at RESET", |c| c.waits(is_reset)),
+    (
+        "waiting at READ or RESET for one whose spawner has ended",
+        |c| c.waits(|x| is_read(x) || is_reset(x)) && c.orphans(),
+    ),
+    ("READ or RESET after all descendants ended", |c| {
+        c.does(|x| is_read(x) || is_reset(x)) && c.has_child()
+    }),
+    ("END of a FINISH body past a child from before it", |c| {
+        c.does(|x| *x == Command::End) && c.finishes() > 0 && c.unended_below() && c.tops_finish()
+    }),
+    ("passing without a clock", |c| {
+        c.passes() && c.own().held().count() == 0
+    }),
+    ("passing with 2 or more own clocks", |c| {
+        c.passes() && c.own().held().count() > 1
+    }),
+    ("passing with 2 or more holders", |c| {
+        c.passes() && c.company() > 1
+    }),
+    ("passing with 4 or more holders", |c| {
+        c.passes() && c.company() > 3
+    }),
+    ("passing with another holder a phase ahead", |c| {
+        c.passes() && c.some_hold(|own, other| other.phase > own.phase)
+    }),
+    ("passing in phase 3 or later", |c| {
+        c.passes() && c.own().held().any(|h| h.phase > 2)
+    }),
+    ("passing inside an own FINISH", |c| {
+        c.passes() && c.finishes() > 0 && c.company() > 1
+    }),
+    ("a clock lent", |c| c.lends() > 0),
+    ("2 or more clocks lent", |c| c.lends() > 1),
+    ("a clock lent in a later phase", |c| {
+        c.lends() > 0 && c.own().held().any(|hold| hold.phase > 0)
+    }),
+    ("a clock lent by a spawned activity", |c| {
+        c.lends() > 0 && c.activity > 0
+    }),
+    ("a clock held back at ASYNC", |c| {
+        c.does(|x| matches!(x, Command::Async { .. })) && c.own().held().count() > c.lends()
+    }),
+    ("RESUME again", |c| {
+        c.does(|x| matches!(x, Command::Resume(_)))
+            && c.named_hold()
+                .is_some_and(|h| h.registration == Registration::Quiesced)
+    }),
+    ("DROP while another holder is at a meeting", |c| {
+        c.does(|x| matches!(x, Command::Drop(_))) && c.others_meet()
+    }),
+    ("DROP of one that quiesced", |c| {
+        c.does(|x| matches!(x, Command::Drop(_)))
+            && c.named_hold()
+                .is_some_and(|h| h.registration == Registration::Quiesced)
+    }),
+    ("END of a holder while another is at a meeting", |c| {
+        c.does(|x| *x == Command::End) && c.own().depth == 1 && c.others_meet()
+    }),
+    ("CLOCK of a 5th clock or later", |c| {
+        c.does(|x| matches!(x, Command::Clock(_))) && c.before.clocks > 3
+    }),
+    ("ASYNC in an own FINISH", |c| {
+        c.does(|x| matches!(x, Command::Async { .. })) && c.finishes() > 0
+    }),
+    ("FINISH nested 2 deep", |c| c.finishes() > 1),
+    ("FINISH nested 3 deep", |c| c.finishes() > 2),
+    ("FINISH nested 4 deep", |c| c.finishes() > 3),
+    ("FINISH within a REPEAT", |c| {
+        c.tops_finish() && c.repeats() > 0
+    }),
+    ("FINISH by a spawned activity", |c| {
+        c.activity > 0 && c.does(|x| matches!(x, Command::Finish { .. }))
+    }),
+    ("REPEAT 0", |c| {
+        c.does(|x| matches!(x, Command::Repeat { runs: 0, .. }))
+    }),
+    ("REPEAT nested 2 deep", |c| c.repeats() > 1),
+    ("a second run of a REPEAT body", |c| {
+        c.does(|x| *x == Command::End) && c.top_runs() > 1
+    }),
+    ("ASYNC in a REPEAT", |c| {
+        c.does(|x| matches!(x, Command::Async { .. })) && c.repeats() > 0
+    }),
+    ("10 bodies on a stack", |c| {
+        c.spawned().is_some_and(|own| own.depth > 9)
+    }),
+    ("OFFER to another's accumulator", |c| {
+        c.does(|x| matches!(x, Command::Offer(_))) && !c.owns_named()
+    }),
+    ("OFFER to a minimum", |c| c.offers_to(1)),
+    ("OFFER to a maximum", |c| c.offers_to(2)),
+    ("OFFER past 2^32", |c| c.offers_to(0) && c.wraps()),
+    ("ACC on a bound name of its own", |c| {
+        c.rebinds() && c.owns_named()
+    }),
+    ("ACC on an inherited name", |c| {
+        c.rebinds() && !c.owns_named()
+    }),
+    ("READ or RESET by a spawned activity", |c| {
+        c.activity > 0 && c.does(|x| is_read(x) || is_reset(x))
+    }),
+    ("READ or RESET while others hold clocks", |c| {
+        c.does(|x| is_read(x) || is_reset(x))
+            && c.before.spawned().iter().any(|a| a.held().count() > 0)
+    }),
+    ("ATOM of 8", |c| {
+        c.does(|x| matches!(x, Command::Atom(all) if all.len() == 8))
+    }),
+    ("64 activities", |c| c.before.activities == 64),
+    ("16 clocks", |c| c.before.clocks == 16),
+    ("16 accumulators", |c| c.before.accumulators == 16),
+];
+
+/// The features' names.
+pub fn names() -> Vec<&'static str> {
+    FEATURES.iter().map(|(name, _)| *name).collect()
+}
+
+/// The features seen in one run.
+pub struct Watch {
+    seen: [bool; FEATURES.len()],
+}
+
+impl Default for Watch {
+    fn default() -> Watch {
+        Watch {
+            seen: [false; FEATURES.len()],
+        }
+    }
+}
+
+impl Watch {
+    pub fn see(&mut self, table: &Table, before: &State, activity: usize, answer: u8) {
+        let call = Call {
+            table,
+            before,
+            activity,
+            answer,
+        };
+        for (seen, (_, test)) in self.seen.iter_mut().zip(FEATURES) {
+            *seen = *seen || test(&call);
+        }
+    }
+
+    /// Adds this run to the runs with each feature.
+    pub fn count(&self, runs: &mut BTreeMap<&'static str, u64>) {
+        let seen = self.seen.iter().zip(FEATURES);
+        for (_, (name, _)) in seen.filter(|(seen, _)| **seen) {
+            *runs.entry(name).or_default() += 1;
+        }
+    }
+}
+
+fn is_read(command: &Command) -> bool {
+    matches!(command, Command::Read(_))
+}
+
+fn is_reset(command: &Command) -> bool {
+    matches!(command, Command::Reset(_))
+}

@@ -1,0 +1,109 @@
+//! The machine's calls over lent bytes, from the archive that `rt staticlib host` writes.
+
+use reference::bytes::LENGTH;
+
+/// The bytes of a sheet.
+const SHEET: usize = 1_024;
+/// Stands in what is lent before a call, to see that a refused call leaves it.
+const MARK: u8 = 0xA5;
+
+extern "C" {
+    fn stepmachine_start(table: *const u8, n: usize, state: *mut u8, m: usize) -> u8;
+    fn stepmachine_step(
+        table: *const u8,
+        n: usize,
+        state: *mut u8,
+        m: usize,
+        activity: usize,
+    ) -> u8;
+    fn stepmachine_ready(
+        table: *const u8,
+        n: usize,
+        state: *const u8,
+        m: usize,
+        set: *mut u64,
+    ) -> u8;
+    fn stepmachine_registrations(
+        table: *const u8,
+        n: usize,
+        state: *const u8,
+        m: usize,
+        sheet: *mut u8,
+        k: usize,
+    ) -> u8;
+    fn stepmachine_run(
+        table: *const u8,
+        n: usize,
+        order: *const u8,
+        k: usize,
+        answers: *mut u8,
+        room: usize,
+        state: *mut u8,
+        m: usize,
+    ) -> u8;
+}
+
+/// The start: its number and the state.
+pub fn start(table: &[u8]) -> (u8, Vec<u8>) {
+    let mut state = vec![MARK; LENGTH];
+    let number =
+        unsafe { stepmachine_start(table.as_ptr(), table.len(), state.as_mut_ptr(), LENGTH) };
+    (number, state)
+}
+
+/// A step of the state: its answer.
+pub fn step(table: &[u8], state: &mut [u8], activity: usize) -> u8 {
+    let (bytes, length) = (state.as_mut_ptr(), state.len());
+    unsafe { stepmachine_step(table.as_ptr(), table.len(), bytes, length, activity) }
+}
+
+/// The number and the ready set, which is empty where the call leaves what was lent.
+pub fn ready(table: &[u8], state: &[u8]) -> (u8, u64) {
+    let mark = u64::from_le_bytes([MARK; 8]);
+    let mut set = mark;
+    let (bytes, length) = (state.as_ptr(), state.len());
+    let number = unsafe { stepmachine_ready(table.as_ptr(), table.len(), bytes, length, &mut set) };
+    if number != 0 {
+        assert_eq!(set, mark, "a refused ready set was written");
+        set = 0;
+    }
+    (number, set)
+}
+
+/// The number and the sheet, which is of zeros where the call leaves what was lent.
+pub fn registrations(table: &[u8], state: &[u8]) -> (u8, [u8; SHEET]) {
+    let mut sheet = [MARK; SHEET];
+    let (bytes, length) = (state.as_ptr(), state.len());
+    let to = sheet.as_mut_ptr();
+    let number =
+        unsafe { stepmachine_registrations(table.as_ptr(), table.len(), bytes, length, to, SHEET) };
+    if number != 0 {
+        assert!(sheet == [MARK; SHEET], "a refused sheet was written");
+        sheet = [0; SHEET];
+    }
+    (number, sheet)
+}
+
+/// A run in one call: its number, each step's answer and the state after the last.
+pub fn run(table: &[u8], order: &[u8]) -> (u8, Vec<u8>, Vec<u8>) {
+    let mut answers = vec![MARK; order.len()];
+    let mut state = vec![MARK; LENGTH];
+    let number = unsafe {
+        stepmachine_run(
+            table.as_ptr(),
+            table.len(),
+            order.as_ptr(),
+            order.len(),
+            answers.as_mut_ptr(),
+            answers.len(),
+            state.as_mut_ptr(),
+            LENGTH,
+        )
+    };
+    (number, answers, state)
+}
+
+/// Whether nothing was written into these bytes.
+pub fn is_untouched(bytes: &[u8]) -> bool {
+    bytes.iter().all(|&byte| byte == MARK)
+}

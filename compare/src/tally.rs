@@ -1,0 +1,79 @@
+//! How often each thing was met.
+
+use std::collections::BTreeMap;
+
+/// By number: a refusal's, or 100 plus that of a fault; 0 for what is accepted.
+pub type Met = BTreeMap<u8, u64>;
+
+/// What a comparison met; tallies of parts are added up.
+#[derive(Default)]
+pub struct Tally {
+    pub tables: u64,
+    pub accepted: u64,
+    pub ended: u64,
+    pub steps: u64,
+    pub states: u64,
+    pub edits: u64,
+    pub walks: u64,
+    /// The numbers of starts, and the answers of steps.
+    pub met: Met,
+    /// The runs with each feature.
+    pub features: BTreeMap<&'static str, u64>,
+}
+
+impl Tally {
+    pub fn meet(&mut self, number: u8) {
+        *self.met.entry(number).or_default() += 1;
+    }
+
+    pub fn add(&mut self, other: Tally) {
+        self.tables += other.tables;
+        self.accepted += other.accepted;
+        self.ended += other.ended;
+        self.steps += other.steps;
+        self.states += other.states;
+        self.edits += other.edits;
+        self.walks += other.walks;
+        for (number, times) in other.met {
+            *self.met.entry(number).or_default() += times;
+        }
+        for (name, times) in other.features {
+            *self.features.entry(name).or_default() += times;
+        }
+    }
+
+    pub fn print(&self, features: &[&'static str]) {
+        println!(
+            "tables {} accepted {} runs ended {} steps {}",
+            self.tables, self.accepted, self.ended, self.steps
+        );
+        println!(
+            "states by hand or damaged {} states with a byte changed {} walks {}",
+            self.states, self.edits, self.walks
+        );
+        let times = |number| self.met.get(&number).copied().unwrap_or(0);
+        let numbers: Vec<String> = (1..=17).map(|n| format!("{n}: {}", times(n))).collect();
+        println!("numbers met {}", numbers.join(", "));
+        let faults: Vec<String> = (1..=7)
+            .map(|f| format!("F{f}: {}", times(100 + f)))
+            .collect();
+        println!("faults met {}", faults.join(", "));
+        println!("runs with");
+        for name in features {
+            println!("  {:6} {name}", self.features.get(name).unwrap_or(&0));
+        }
+    }
+
+    /// The numbers, faults and features that were not met.
+    pub fn missing(&self, features: &[&'static str]) -> Vec<String> {
+        let numbers = (1..=17).chain(101..=107);
+        let numbers = numbers.filter(|number| !self.met.contains_key(number));
+        let features = features
+            .iter()
+            .filter(|name| !self.features.contains_key(*name));
+        numbers
+            .map(|number| number.to_string())
+            .chain(features.map(|name| name.to_string()))
+            .collect()
+    }
+}
