@@ -1,1 +1,4 @@
+pub mod Paging
+pub mod Pages
 pub mod Putting
+mod Example
