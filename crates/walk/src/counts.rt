@@ -1,23 +1,10 @@
-// The steps taken and the activities ended.
+// The activities ended.
 ghost use mathlib.Core.Path.{_≡_};
-ghost use Prim.Native.Nat.{_≤_, min};
+ghost use Prim.Native.Nat.{min};
 ghost use Rattle.rules.specs.State.{ended as State·ended};
 ghost use Rattle.rules.specs.Search.{countBelow};
 use rules::checks::is_ended;
 use rules::state::State;
-
-// A step is taken where the answer is 0 or that of a fault.
-pub fn steps_of(answer: u8) -> u64
-    ensures { λ r. ⌜ r ≤ 1 ⌝ }
-{
-    if answer == 0 {
-        return 1;
-    }
-    if answer < 100 {
-        return 0;
-    }
-    1
-}
 
 // How many activities have ended, faulted ones too.
 pub fn ended(s: State) -> u64

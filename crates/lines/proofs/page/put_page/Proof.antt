@@ -1,3 +1,4 @@
+-- The lines before the next stand in the buffer, whole.
 use Prim.Native.Nat.{ℕ, _≤_, _<_, _-_}
 use mathlib.Core.Path.{_≡_, sym, ap, _∙_}
 use native.Mathlib.Omega.{arith}
@@ -8,11 +9,6 @@ use Rattle.lines.proofs.Putting.{kept}
 use Rattle.lines.proofs.Paging.{Under, under-start, under-more, under-end, steps-le}
 use Rattle.lines.proofs.page.put_page.Statement.{statement}
 use Rattle.lines.proofs.page.put_page.Tie as tie
-use Rattle.lines.proofs.page.put_page.Reads as reads
-use Rattle.lines.proofs.page.put_page.Lts as lts
-use Rattle.lines.proofs.line.put_line.Reads as put-line-reads
-use Rattle.lines.proofs.page.steps_of.Reads as steps-of-reads
-use Rattle.lines.proofs.page.taken_by.Reads as taken-by-reads
 
 abbrev Inv-loop : tie.InvT-loop
 Inv-loop out₀ order answers line taken₀ end₀ next₀ out taken end next = Under out₀ order answers line out taken end next
