@@ -1,16 +1,15 @@
 -- Pages joined are the whole text of the lines.
-use Prim.Native.Nat.{ℕ, zero, suc, _+_, _<_, _≤_}
-use mathlib.Core.Path.{_≡_, refl, sym, ap, _∙_, subst}
+use Prim.Native.Nat.{ℕ, _+_, _≤_}
+use mathlib.Core.Path.{_≡_, refl, sym, ap, _∙_}
 use mathlib.Core.List.{List, [], _∷_, _++_}
 use native.Mathlib.Omega.{arith}
 use lib.ListN.{length, take, drop}
-use lib.Seq.{sets, sets-eq, take-at, take-all, slice}
-use Rattle.lines.specs.declared.page.Page.{Page}
+use lib.Seq.{sets-eq, take-at, take-all}
 use Rattle.lines.specs.Put.{Put}
 use Rattle.lines.specs.Text.{headerOf, lineOf, totalOf}
 use Rattle.lines.specs.Walk.{stepsOf, stepsIn, linesFrom, walkText}
-use Rattle.lines.specs.Paged.{linesBetween, Paged, Pages, over, page, joined}
-use Rattle.lines.proofs.Paging.{between-none, between-join, steps-none}
+use Rattle.lines.specs.Paged.{linesBetween, Pages, over, page, joined}
+use Rattle.lines.proofs.Paging.{between-none, between-join}
 
 -- A text that is put whole at the buffer's start is what stands before its end.
 pub handed : {before text after : List ℕ} {end : ℕ} → Put before 0 text after end → end ≡ length text → take end after ≡ text

@@ -1,18 +1,14 @@
 -- What the program hands on, joined, is what the rules say that it prints.
-use Prim.Native.Nat.{ℕ, _+_, _<_, _≤_, min}
-use mathlib.Core.Bool.{Bool, true, false, cond}
+use Prim.Native.Nat.{ℕ, _+_, _≤_, min}
 use mathlib.Core.List.{List, [], _∷_, _++_, map}
 use mathlib.Core.Path.{_≡_, refl, sym, ap, _∙_, subst}
 use native.Mathlib.Omega.{arith}
-use borrow.Author.Tests.{ne-eqb, eqb-true, le-leb}
-use lib.Dec.{eqb, leb}
+use borrow.Author.Tests.{ne-eqb, le-leb}
 use lib.ListN.{length, take, drop, length-map, length-append}
 use lib.Seq.{take-at}
 use Rattle.program.specs.Bodies.{programOf}
 use Rattle.program.specs.Count.{workOf}
 use Rattle.program.specs.Table.{numberOf}
-use Rattle.rules.specs.declared.state.Fault.{Fault}
-use Rattle.rules.specs.declared.state.Fault.the-variants.{F1, F2, F3, F4, F5, F6, F7}
 use Rattle.rules.specs.declared.state.Status.{Status}
 use Rattle.rules.specs.declared.state.Status.the-variants.{Running, AtBarrier, Ended, Faulted}
 use Rattle.rules.specs.declared.state.State.{State}
@@ -21,9 +17,9 @@ use Rattle.rules.specs.declared.answer.Stepped.{Stepped}
 use Rattle.rules.specs.declared.answer.Completion.the-variants.{Done}
 use Rattle.rules.specs.declared.answer.Ran.{Ran}
 use Rattle.rules.specs.Search.{countBelow}
-use Rattle.rules.specs.State.{answerNumber, statusAnswer, faultNumber, ended}
-use Rattle.rules.specs.Steps.{base, startState, start, step, refusal}
-use Rattle.rules.specs.Runs.{run, runFrom, answers, answersFrom}
+use Rattle.rules.specs.State.{answerNumber, statusAnswer, ended}
+use Rattle.rules.specs.Steps.{base, startState, start, step}
+use Rattle.rules.specs.Runs.{run, answers, answersFrom}
 use Rattle.rules.proofs.StepLaws.{refusal-number}
 use Rattle.rules.proofs.Applied.{steps-applied}
 use Rattle.rules.proofs.Reached.{doing, failed}

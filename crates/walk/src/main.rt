@@ -3,10 +3,10 @@ ghost use Prim.Native.Nat.{_≤_};
 ghost use lib.ListN.{length};
 
 mod files; // files.rt: a file read whole
-mod counts; // counts.rt: the activities ended
+mod counts; // counts.rt: the activities ended, and the total of a state
 mod print; // print.rt: text handed to the standard output, a page at a time
 
-use counts::ended;
+use counts::put_ending;
 use print::flush;
 use print::print_lines;
 use program::table::read_table;
@@ -28,14 +28,7 @@ fn walk(job: &[u8], order: &[u8], out: &mut [u8], answers: &mut [u8])
     let headed = lines::put_header(out, 0);
     flush(out, headed);
     print_lines(out, order, answers);
-    let end = lines::put_total(
-        out,
-        0,
-        found.work,
-        state.steps as u64,
-        ended(state),
-        state.activities as u64,
-    );
+    let end = put_ending(out, found.work, state);
     flush(out, end);
 }
 

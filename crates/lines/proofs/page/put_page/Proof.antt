@@ -1,10 +1,9 @@
 -- The lines before the next stand in the buffer, whole.
-use Prim.Native.Nat.{ℕ, _≤_, _<_, _-_}
-use mathlib.Core.Path.{_≡_, sym, ap, _∙_}
+use Prim.Native.Nat.{_-_}
 use native.Mathlib.Omega.{arith}
 use borrow.Author.Needs.{needs}
 use borrow.Author.Tests.{ltb-true, ltb-false, leb-true, leb-false}
-use lib.ListN.{length, take, getD}
+use lib.ListN.{length, getD}
 use Rattle.lines.proofs.Putting.{kept}
 use Rattle.lines.proofs.Paging.{Under, under-start, under-more, under-end, steps-le}
 use Rattle.lines.proofs.page.put_page.Statement.{statement}
