@@ -1,3 +1,4 @@
 pub mod Counting
+mod Enough
 pub mod Parts
 mod Printed

@@ -32,7 +32,7 @@ fn walk(job: &[u8], order: &[u8], out: &mut [u8], answers: &mut [u8])
     flush(out, end);
 }
 
-// A table has at most 2,048 bytes, so one byte more is read. Of the order, 65,535 bytes count.
+// A table has at most 2,048 bytes, so one byte more is enough (proofs/Enough.antt). Of the order, 65,535 bytes count.
 fn main() {
     let mut job = [0u8; 2049];
     let mut order = [0u8; 65535];
