@@ -13,7 +13,7 @@ answers : List ℕ
 answers = 0 ∷ 0 ∷ 0 ∷ 16 ∷ 0 ∷ 0 ∷ 0 ∷ 0 ∷ 0 ∷ 15 ∷ []
 
 -- Its bytes, line by line.
-bytes : List ℕ
+unfoldable pub bytes : List ℕ
 bytes =
     (108 ∷ 105 ∷ 110 ∷ 101 ∷ 32 ∷ 97 ∷ 99 ∷ 116 ∷ 32 ∷ 97 ∷ 110 ∷ 115 ∷ 119 ∷ 101 ∷ 114 ∷ 32 ∷ 116 ∷ 97 ∷ 107 ∷ 101 ∷ 110 ∷ 10 ∷ [])
     ++ (49 ∷ 32 ∷ 48 ∷ 32 ∷ 48 ∷ 32 ∷ 49 ∷ 10 ∷ [])

@@ -1,4 +1,5 @@
 pub mod Counting
 mod Enough
+mod Example
 pub mod Parts
 mod Printed
