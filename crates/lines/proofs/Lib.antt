@@ -1,1 +1,4 @@
+pub mod Example
+pub mod Paging
+pub mod Pages
 pub mod Putting

@@ -1,2 +1,4 @@
+pub mod Paged
 pub mod Put
 pub mod Text
+pub mod Walk

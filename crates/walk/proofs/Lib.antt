@@ -1,2 +1,5 @@
 pub mod Counting
+mod Enough
+mod Example
 pub mod Parts
+mod Printed

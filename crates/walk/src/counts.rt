@@ -1,23 +1,13 @@
-// The steps taken and the activities ended.
+// The activities ended, and the total of a state.
 ghost use mathlib.Core.Path.{_≡_};
-ghost use Prim.Native.Nat.{_≤_, min};
+ghost use Prim.Native.Nat.{min};
 ghost use Rattle.rules.specs.State.{ended as State·ended};
 ghost use Rattle.rules.specs.Search.{countBelow};
+ghost use Rattle.lines.specs.Put.{Put};
+ghost use Rattle.lines.specs.Text.{totalOf};
+use lines::put_total;
 use rules::checks::is_ended;
 use rules::state::State;
-
-// A step is taken where the answer is 0 or that of a fault.
-pub fn steps_of(answer: u8) -> u64
-    ensures { λ r. ⌜ r ≤ 1 ⌝ }
-{
-    if answer == 0 {
-        return 1;
-    }
-    if answer < 100 {
-        return 0;
-    }
-    1
-}
 
 // How many activities have ended, faulted ones too.
 pub fn ended(s: State) -> u64
@@ -35,4 +25,12 @@ pub fn ended(s: State) -> u64
         }
     }
     count
+}
+
+// Puts the total of a state at the buffer's start, and answers the place after it.
+pub fn put_ending(out: &mut [u8], work: u64, s: State) -> usize
+    ensures { λ r. ⌜ Put (now (out .entry)) 0 (totalOf work (s .steps) (countBelow (min (s .activities) 64) (State·ended s)) (s .activities)) (now (out .exit)) r ⌝ }
+{
+    let count = ended(s);
+    put_total(out, 0, work, s.steps as u64, count, s.activities as u64)
 }

@@ -1,15 +1,21 @@
 // Walks through a job: reads the files JOB and ORDER, and prints a line for each byte of the order and a total.
-mod files; // files.rt: a file read whole
-mod counts; // counts.rt: the steps taken and the activities ended
-mod print; // print.rt: the lines, written when the buffer is nearly full
+ghost use Prim.Native.Nat.{_≤_};
+ghost use lib.ListN.{length};
 
-use counts::ended;
+mod files; // files.rt: a file read whole
+mod counts; // counts.rt: the activities ended, and the total of a state
+mod print; // print.rt: text handed to the standard output, a page at a time
+
+use counts::put_ending;
 use print::flush;
 use print::print_lines;
 use program::table::read_table;
 
-// Prints the number for which the table is turned down, or the walk.
-fn walk(job: &[u8], order: &[u8], out: &mut [u8], answers: &mut [u8]) {
+// Prints the number for which the table is turned down, or the walk: specs/Walked.antt says what, proofs/Printed.antt that the pieces joined are that.
+fn walk(job: &[u8], order: &[u8], out: &mut [u8], answers: &mut [u8])
+    requires { ⌜ length (now order) ≤ length (now answers) ⌝ }
+    requires { ⌜ 128 ≤ length (now out) ⌝ }
+{
     let found = read_table(job);
     let number = found.number;
     if number != 0 {
@@ -19,19 +25,14 @@ fn walk(job: &[u8], order: &[u8], out: &mut [u8], answers: &mut [u8]) {
     }
     let ran = machine::run(job, order, answers);
     let state = ran.state;
-    let at = print_lines(out, order, answers);
-    let end = lines::put_total(
-        out,
-        at,
-        found.work,
-        state.steps as u64,
-        ended(state),
-        state.activities as u64,
-    );
+    let headed = lines::put_header(out, 0);
+    flush(out, headed);
+    print_lines(out, order, answers);
+    let end = put_ending(out, found.work, state);
     flush(out, end);
 }
 
-// A table has at most 2,048 bytes, so one byte more is read. Of the order, 65,535 bytes count.
+// A table has at most 2,048 bytes, so one byte more is enough (proofs/Enough.antt). Of the order, 65,535 bytes count.
 fn main() {
     let mut job = [0u8; 2049];
     let mut order = [0u8; 65535];

@@ -1,66 +1,44 @@
--- No more steps are taken than bytes are passed.
+-- Each page goes on to a later line, and never past the order.
 use Prim.Native.Nat.{_≤_, _-_}
-use mathlib.Core.Path.{_≡_, _∙_}
+use mathlib.Core.Path.{_≡_, refl, _∙_}
 use native.Mathlib.Omega.{arith}
-use borrow.Author.Needs.{needs}
-use borrow.Author.Tests.{ltb-true}
 use lib.ListN.{length}
 use Rattle.walk.proofs.Parts.{kept}
 use Rattle.walk.proofs.print.print_lines.Statement.{statement}
 use Rattle.walk.proofs.print.print_lines.Tie as tie
 
 abbrev Inv-loop : tie.InvT-loop
-Inv-loop out₀ order answers at₀ taken₀ k₀ out at taken k = (taken ≤ k) × (k ≤ length order) × (length out ≡ length out₀)
+Inv-loop out₀ order answers line₀ out line = (line ≤ length order) × (length out ≡ length out₀)
 
 abbrev μ-loop : tie.MeasureT-loop
-μ-loop out₀ order answers at₀ taken₀ k₀ out at taken k = length order - k
-
-put-header-requires : tie.Need-put-header-requires Inv-loop μ-loop
-put-header-requires c κs = search needs
+μ-loop out₀ order answers line₀ out line = length order - line
 
 loop-holds : tie.Need-loop-holds Inv-loop μ-loop
-loop-holds c = search needs
+loop-holds c = (omega arith, refl)
 
-shared-slice-read-answer : tie.Need-shared-slice-read-answer Inv-loop μ-loop
-shared-slice-read-answer c = omega (arith, ltb-true)
+put-page-requires : tie.Need-put-page-requires Inv-loop μ-loop
+put-page-requires c κs = tt
 
-shared-slice-read-act : tie.Need-shared-slice-read-act Inv-loop μ-loop
-shared-slice-read-act c = omega (arith, ltb-true)
-
-add-k : tie.Need-add-k Inv-loop μ-loop
-add-k c = search needs
-
-steps-of-requires : tie.Need-steps-of-requires Inv-loop μ-loop
-steps-of-requires c κs = search needs
-
-add-taken : tie.Need-add-taken Inv-loop μ-loop
-add-taken c = search needs
-
-flush-full-requires : tie.Need-flush-full-requires Inv-loop μ-loop
-flush-full-requires c κs = search needs
-
-put-line-requires : tie.Need-put-line-requires Inv-loop μ-loop
-put-line-requires c κs = search needs
+flush-requires : tie.Need-flush-requires Inv-loop μ-loop
+flush-requires c κs = tt
 
 loop-less : tie.Need-loop-less Inv-loop μ-loop
-loop-less c = search needs
+loop-less c =
+    let at = c .before .before .before .before .before .before .before in
+    let page = c .before .before .before .before .put-page .ensures in
+    omega (arith, page .goes (c .before .before .before .before .before .before .loop-test .taken) (omega arith) (omega (arith, at .loop .inv .1)), page .within (at .loop .inv .0))
 
 loop-again : tie.Need-loop-again Inv-loop μ-loop
 loop-again c =
-    let at = c .before .before .before .before .before .before .before .before .before .before .before in
-    (omega arith, omega arith, kept (c .before .before .put-line .ensures) ∙ at .loop .inv .2)
+    let at = c .before .before .before .before .before .before .before in
+    let page = c .before .before .before .before .put-page .ensures in
+    (page .within (at .loop .inv .0), kept (page .put) ∙ at .loop .inv .1)
 
 same-length : tie.Need-same-length Inv-loop μ-loop
-same-length c = search needs
+same-length c = c .before .loop .inv .1
 
 returns : tie.Need-returns Inv-loop μ-loop
-returns c = search needs
-
-same-length-2 : tie.Need-same-length-2 Inv-loop μ-loop
-same-length-2 c = search needs
-
-returns-2 : tie.Need-returns-2 Inv-loop μ-loop
-returns-2 c = search needs
+returns c = omega (arith, c .before .loop .inv .0)
 
 pub print-lines-spec : {M : Type 1} → statement M
 print-lines-spec =
@@ -68,18 +46,10 @@ print-lines-spec =
     (tie.spec
     Inv-loop
     μ-loop
-    put-header-requires
     loop-holds
-    shared-slice-read-answer
-    shared-slice-read-act
-    add-k
-    steps-of-requires
-    add-taken
-    flush-full-requires
-    put-line-requires
+    put-page-requires
+    flush-requires
     loop-less
     loop-again
     same-length
-    returns
-    same-length-2
-    returns-2)
+    returns)
