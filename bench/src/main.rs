@@ -1,0 +1,61 @@
+//! Prints nanoseconds a step of the machine beside the second interpreter, and draws how they grow.
+//! Usage: bench FILE.svg
+mod jobs;
+mod machine;
+mod measure;
+mod plot;
+
+use jobs::Job;
+use measure::{pace, Pace, CALLS};
+
+/// A short table, and the longest.
+const SHORT: usize = 48;
+const LONG: usize = 2_048;
+
+/// Activities on the short table, and bytes with eight activities.
+const ACTIVITIES: [usize; 7] = [1, 2, 4, 8, 16, 32, 64];
+const BYTES: [usize; 6] = [48, 128, 256, 512, 1_024, 2_048];
+
+/// The paces of a job, a call each.
+fn paces(activities: usize, bytes: usize) -> Vec<Pace> {
+    let job = Job::new(activities, bytes);
+    CALLS.iter().map(|&(call, _)| pace(call, &job)).collect()
+}
+
+fn heading() {
+    println!("{:>10} {:>6}  {:<16} {:>10} {:>10} {:>7}", "activities", "bytes", "call", "machine", "reference", "ratio");
+}
+
+fn lines(activities: usize, bytes: usize, paces: &[Pace]) {
+    for (pace, (_, name)) in paces.iter().zip(CALLS) {
+        let (machine, reference, ratio) = (pace.machine, pace.reference, pace.ratio());
+        println!("{activities:>10} {bytes:>6}  {name:<16} {machine:>10.0} {reference:>10.0} {ratio:>7.2}");
+    }
+}
+
+/// The paces at each size, printed.
+fn grown(sizes: impl Iterator<Item = (usize, usize)>) -> Vec<Vec<Pace>> {
+    heading();
+    sizes
+        .map(|(activities, bytes)| {
+            let found = paces(activities, bytes);
+            lines(activities, bytes, &found);
+            found
+        })
+        .collect()
+}
+
+fn main() {
+    let file = std::env::args().nth(1).expect("the file to draw to");
+    println!("nanoseconds a step, medians; machine and reference in turn");
+    grown([1, 8, 64].into_iter().flat_map(|n| [(n, SHORT), (n, LONG)]));
+    println!("\nas the activities grow");
+    let activities = grown(ACTIVITIES.into_iter().map(|n| (n, SHORT)));
+    println!("\nas the table grows");
+    let bytes = grown(BYTES.into_iter().map(|b| (8, b)));
+    let drawing = plot::drawing(&[
+        plot::Panel { title: "activities, a table of 48 bytes", sizes: &ACTIVITIES, paces: &activities },
+        plot::Panel { title: "bytes of the table, 8 activities", sizes: &BYTES, paces: &bytes },
+    ]);
+    std::fs::write(&file, drawing).expect("the drawing is written");
+}
