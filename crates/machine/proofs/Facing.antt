@@ -27,10 +27,8 @@ use Rattle.rules.proofs.WellFormedStack.{stack-back}
 use Rattle.rules.proofs.WellFormedFacts.{ActivityFacts, Facts, facts}
 use Rattle.machine.specs.Known.{Known}
 use Rattle.machine.specs.Stack.{Stacked}
-use Rattle.machine.specs.Apply.{Rooted}
-use Rattle.machine.specs.Facing.{Facing, Placed}
-use Rattle.machine.specs.Turn.{Fit, Sees}
-use Rattle.machine.specs.declared.look.Seen.{Seen}
+use Rattle.machine.specs.Facing.{Able, Facing, Rooted, Placed}
+use Rattle.machine.specs.Turn.{Fit}
 use Rattle.machine.proofs.Places.{sound-here}
 use Rattle.machine.proofs.Stacks.{stacked}
 
@@ -130,13 +128,15 @@ module _ {t : List ℕ} {l : Layout} {s : State} (fit : Fit t l s) where
     pub placed : Placed t l s i (act s i)
     placed = record { known = fit .known; stack = stack-of; rooted = rooted; below = omega (arith, fact .acts64) }
 
+-- An activity that was spawned, ended or not.
+pub able : {t : List ℕ} {l : Layout} {s : State} → Fit t l s → {i : ℕ} → i < s .activities → Able t l (act s i)
+able {t} {l} {s} fit {i} made =
+    let f = facts 65535 (programOf t) s (fit .formed) in
+    record { known = fit .known; stack = λ r. stack-of fit made r; bindings = λ n h. omega (arith, f .spawned i made .bounds n h, f .accs16) }
+
 -- NUMBERS 14 TO 16
 
 module _ (p : Program) (s : State) (i : ℕ) where
-  -- Turned down, the fault and the command do not matter.
-  pub sees-number : {r : Seen} {n : ℕ} → r .number ≡ n → n ≡ refusal p s i → (n ≡ 0 → ⊥) → Sees p s i r
-  sees-number e q h = record { number = e ∙ q; fault = λ z. absurd (h (q ∙ z)); command = λ z. absurd (h (q ∙ z)) }
-
   pub unspawned : s .activities ≤ i → 14 ≡ refusal p s i
   unfolding refusal
   unspawned h = rw (le-ltb i (s .activities) h)

@@ -22,14 +22,16 @@ use Rattle.rules.specs.State.{noHold, top, hold, bound, isAtBarrier}
 use Rattle.rules.specs.Clocks.{pass}
 use Rattle.rules.specs.Tree.{here, nextOffset}
 use Rattle.rules.specs.Faults.{unbound}
-use Rattle.rules.specs.Effects.{Effect, past, nextOf, touching, touch, touchAll, untouched, effectOf, envOf, applied}
+use Rattle.rules.specs.Effects.{Effect, past, nextOf, touching, touch, touchAll, untouched, effectOf, envOf}
 use Rattle.rules.specs.Steps.{base, spawns, makes, exceeds}
 use Rattle.rules.proofs.Tests.{and-false, cond-zero}
 use Rattle.rules.proofs.Search.{someBelow-none}
 use Rattle.machine.specs.Known.{On}
-use Rattle.machine.specs.Apply.{Room}
 use Rattle.machine.specs.Cells.{InRange}
-use Rattle.machine.specs.Perform.{Passable, Does, TouchedBy, Bound, Performing}
+use Rattle.machine.specs.Change.{lone, Does, IsChild}
+use Rattle.machine.specs.Perform.{Passable, PerformsAs, Performs, TouchedBy, Bound, Performing, Performed}
+use Rattle.machine.specs.declared.change.Shared.{Shared}
+use Rattle.machine.specs.declared.change.Change.{Change}
 use Rattle.machine.proofs.Places.{sound-here}
 
 -- NUMBER 17
@@ -73,8 +75,8 @@ module _ {t : List ℕ} {l : Layout} {s : State} {i : ℕ} {a : Activity} {comma
   pub fitting : Within (programOf t) s (effectOf (programOf t) (envOf s) i a command (here (programOf t) (top a) .inner))
   fitting = within (programOf t) s _ (h .fits)
 
-  pub room : Room s i
-  room = let w = fitting .steps in let k = h .work in record { below = h .below; left = omega arith }
+  pub room : s .steps < 65535
+  room = let w = fitting .steps in let k = h .work in omega arith
 
   pub on : On t (top a) command
   on = let q = h .stack .some in record { scanned = h .known .scanned; placed = h .stack .placed (a .depth - 1) (omega arith); stands = h .stands }
@@ -107,29 +109,32 @@ passable {a = a} h e k small = let q = rw e at (fitting h .phases k small) in rw
 
 -- DONE
 
-module _ {t : List ℕ} {l : Layout} {s : State} {i : ℕ} {a : Activity} {command : Command} {next : ℕ} (h : Performing t l s i a command next) {o : Command} (e : command ≡ o) where
-  -- What was done to the command found is done to the command.
-  pub done-same : {r : State} → r ≡ applied s i (effectOf (programOf t) (envOf s) i a o (here (programOf t) (top a) .inner))
-      → r ≡ applied s i (effectOf (programOf t) (envOf s) i a command (here (programOf t) (top a) .inner))
-  done-same q = rw e q
+module _ {t : List ℕ} {l : Layout} {e : Shared} {i : ℕ} {a : Activity} {command : Command} {next : ℕ} (h : Performing t l (lone e) i a command next) {o : Command} (q : command ≡ o) (r : Change) where
+  -- What was done for the command found is done for the command.
+  pub done-same : Does e r (effectOf (programOf t) (envOf (lone e)) i a o (here (programOf t) (top a) .inner)) → Performed (programOf t) e i a command r
+  unfolding Does Performed
+  done-same d = λ c so. rw q (d c)
 
   module _ (goes : isEnd o ≡ false) where
     onward : next ≡ nextOffset (programOf t) (top a)
-    onward = h .onward (ap isEnd e ∙ goes)
+    onward = h .onward (ap isEnd q ∙ goes)
 
-    pub done : {r : State} → Does s i a o next r → r ≡ applied s i (effectOf (programOf t) (envOf s) i a command (here (programOf t) (top a) .inner))
-    unfolding Does
-    done d = done-same (d (programOf t) (here (programOf t) (top a) .inner) onward)
+    pub done-as : PerformsAs e i a o next r → Performed (programOf t) e i a command r
+    unfolding PerformsAs Performed IsChild
+    done-as d = λ c so. rw q (d (programOf t) (here (programOf t) (top a) .inner) c onward (λ b m z. so b m (q ∙ z)))
 
-    pub done-cell : {r : State} → TouchedBy s i a (touch (envOf s .cell) (untouched a) command) next r
-        → touching (programOf t) a (touch (envOf s .cell) (untouched a) o) ≡ effectOf (programOf t) (envOf s) i a o (here (programOf t) (top a) .inner)
-        → r ≡ applied s i (effectOf (programOf t) (envOf s) i a command (here (programOf t) (top a) .inner))
+    pub done : Performs e a o next r → Performed (programOf t) e i a command r
+    unfolding Performs
+    done d = done-as (d i)
+
+    pub done-cell : TouchedBy e a (touch (envOf (lone e) .cell) (untouched a) command) next r
+        → touching (programOf t) a (touch (envOf (lone e) .cell) (untouched a) o) ≡ effectOf (programOf t) (envOf (lone e)) i a o (here (programOf t) (top a) .inner)
+        → Performed (programOf t) e i a command r
     unfolding TouchedBy
-    done-cell d q = done-same (d (programOf t) onward ∙ ap (λ (c : Command). applied s i (touching (programOf t) a (touch (envOf s .cell) (untouched a) c))) e ∙ ap (applied s i) q)
+    done-cell d z = done-same (rw (q, z) at (d (programOf t) onward))
 
 -- ATOM with the commands that belong to it.
-pub done-atom : {t : List ℕ} {l : Layout} {s : State} {i : ℕ} {a : Activity} {command : Command} {next : ℕ} (h : Performing t l s i a command next) {k : ℕ} (e : command ≡ Atom k) {r : State}
-    → TouchedBy s i a (touchAll (envOf s .cell) (untouched a) (here (programOf t) (top a) .inner)) next r
-    → r ≡ applied s i (effectOf (programOf t) (envOf s) i a command (here (programOf t) (top a) .inner))
+pub done-atom : {t : List ℕ} {l : Layout} {e : Shared} {i : ℕ} {a : Activity} {command : Command} {next : ℕ} (h : Performing t l (lone e) i a command next) {k : ℕ} (q : command ≡ Atom k) (r : Change)
+    → TouchedBy e a (touchAll (envOf (lone e) .cell) (untouched a) (here (programOf t) (top a) .inner)) next r → Performed (programOf t) e i a command r
 unfolding TouchedBy effectOf isEnd
-done-atom {t = t} h {k} e d = done-same h e (d (programOf t) (h .onward (ap isEnd e)))
+done-atom {t = t} h {k} q r d = done-same h q r (d (programOf t) (h .onward (ap isEnd q)))

@@ -2,12 +2,12 @@
 use Prim.Native.Nat.{ℕ, zero, suc, _+_, _*_, _%_, _^_, _≤_, _<_}
 use native.Mathlib.Omega.{arith}
 use native.Mathlib.Numerals.{add-one}
-use mathlib.Core.Path.{_≡_, refl, sym, _∙_}
+use mathlib.Core.Path.{_≡_, refl, sym, ap, _∙_}
 use mathlib.Core.Bool.{Bool, true, false, cond}
-use lib.Dec.{eqb, lit<}
+use lib.Dec.{ltb, eqb, lit<}
 use lib.Pow.{shl-exact}
 use lib.Bits.{bitOr, or-shifted-r}
-use borrow.Author.Tests.{eq-eqb, ne-eqb}
+use borrow.Author.Tests.{eq-eqb, ne-eqb, le-ltb}
 use Rattle.program.specs.Bodies.{Program}
 use Rattle.rules.specs.declared.state.State.{State}
 use Rattle.rules.specs.Search.{bitsBelow}
@@ -33,3 +33,12 @@ module _ (p : Program) (s : State) (i : ℕ) (h : i < 64) {set number : ℕ} (so
   bit-left e n =
       let q : eqb (refusal p s i) 0 ≡ false = ne-eqb _ 0 (λ z. n (looked ∙ z)) in
       e ∙ rw (so, add-one i, q) (omega arith)
+
+-- Nobody who was not spawned has a bit.
+pub none-after : (p : Program) (s : State) (n : ℕ) → bitsBelow (s .activities + n) (canStep p s) ≡ bitsBelow (s .activities) (canStep p s)
+unfolding bitsBelow canStep refusal
+none-after p s zero = let e : s .activities + 0 ≡ s .activities = omega arith in rw e
+none-after p s (suc n) =
+    let e : s .activities + suc n ≡ suc (s .activities + n) = omega arith in
+    let q : ltb (s .activities + n) (s .activities) ≡ false = le-ltb (s .activities + n) (s .activities) (omega arith) in
+    rw (e, q, none-after p s n) (omega arith)

@@ -1,14 +1,15 @@
--- Runs: the steps of an order in turn, from a state of the run to its end. What stands in the buffer and what is still to come make all answers.
+-- Runs: the steps of an order in turn, from a state on. The answers so far stand at the start of the buffer.
 use Prim.Native.Nat.{ℕ, suc, _+_, _≤_, _<_}
 use native.Mathlib.Omega.{arith}
 use native.Mathlib.Numerals.{add-one}
 use mathlib.Core.Path.{_≡_, refl, sym, ap, _∙_}
-use mathlib.Core.List.{List, [], _∷_, map, _++_, append-assoc, append-nil}
+use mathlib.Core.List.{List, [], _∷_, map, _++_}
 use mathlib.Core.Bool.{true, false}
-use lib.ListN.{length, take, drop, getD, set, length-set, take-append-drop, drop-of-length-le}
-use lib.Seq.{drop-cons, drop-drop, drop-set-lt, take-suc-set}
+use lib.ListN.{length, take, drop, getD, set, length-set, take-append-drop}
+use lib.Seq.{drop-drop, drop-set-lt, take-suc, take-suc-set, take-all}
 use borrow.Author.Tests.{ne-eqb, le-leb, lt-leb}
 use Rattle.program.specs.Bodies.{programOf}
+use Rattle.program.specs.Count.{workOf}
 use Rattle.program.specs.Table.{numberOf}
 use Rattle.program.specs.declared.scan.Layout.{Layout}
 use Rattle.rules.specs.declared.state.State.{State}
@@ -19,85 +20,82 @@ use Rattle.rules.specs.Steps.{base, startState, stepWith, step, advance}
 use Rattle.rules.specs.Demand3.{AtEveryPoint}
 use Rattle.rules.specs.Runs.{runFrom, answersFrom, run, answers}
 use Rattle.rules.proofs.StepLaws.{fit}
-use Rattle.rules.proofs.Demand3.{Good, good-start, good-step, run-start, answers-start, at-every-point}
+use Rattle.rules.proofs.Demand3.{good-start, good-run, run-start, answers-start, at-every-point}
 use Rattle.machine.specs.Known.{Known}
-use Rattle.machine.specs.Turn.{Fit}
+use Rattle.machine.specs.Turn.{Fit, Followable, answeredFrom}
 use Rattle.machine.specs.Ran.{ranOf, answered, Runs}
+
+-- ONE CALL MORE
+
+run-more : (t : List ℕ) (order : List ℕ) (s : State) (i : ℕ) → runFrom base t s (order ++ (i ∷ [])) ≡ step base t (runFrom base t s order) i .state
+unfolding runFrom
+run-more t [] s i = refl
+run-more t (j ∷ order) s i = run-more t order (step base t s j .state) i
+
+answers-more : (t : List ℕ) (order : List ℕ) (s : State) (i : ℕ)
+    → map answerNumber (answersFrom base t s (order ++ (i ∷ []))) ≡ map answerNumber (answersFrom base t s order) ++ (answerNumber (step base t (runFrom base t s order) i .answer) ∷ [])
+unfolding runFrom answersFrom
+answers-more t [] s i = refl
+answers-more t (j ∷ order) s i = ap (λ (x : List ℕ). answerNumber (step base t s j .answer) ∷ x) (answers-more t order (step base t s j .state) i)
 
 -- A RUN UNDER WAY
 
--- After k steps: the state is one of the run, what is left leads to its end, and the answers so far stand in the buffer.
-pub record Under (t order before : List ℕ) (s : State) (buffer : List ℕ) (k : ℕ) : Type 0 where
+-- After k steps from a state: the state, and the answers so far at the buffer's start.
+pub record Under (t order before : List ℕ) (first s : State) (buffer : List ℕ) (k : ℕ) : Type 0 where
   pub within : k ≤ length order
-  pub good : Good base t s
-  pub rest : runFrom base t s (drop k order) ≡ run base t order
-  pub filled : take k buffer ++ map answerNumber (answersFrom base t s (drop k order)) ≡ map answerNumber (answers base t order)
+  pub here : s ≡ runFrom base t first (take k order)
+  pub filled : take k buffer ≡ map answerNumber (answersFrom base t first (take k order))
   pub kept : drop k buffer ≡ drop k before
   pub sized : length buffer ≡ length before
 
-module _ (t order before : List ℕ) (z : numberOf 65535 t ≡ 0) where
-  pub under-start : {s : State} → s ≡ startState → Under t order before s before 0
-  under-start e =
-      rw e
-      (record {
-        within = omega arith;
-        good = good-start base t (omega arith) z;
-        rest = sym (run-start base t (omega arith) z order);
-        filled = ap (map answerNumber) (sym (answers-start base t (omega arith) z order));
-        kept = refl;
-        sized = refl;
-      })
+pub under-start : (t order before : List ℕ) (s : State) → Under t order before s s before 0
+unfolding runFrom answersFrom
+under-start t order before s = record { within = omega arith; here = refl; filled = refl; kept = refl; sized = refl }
 
-  -- A state of a run is well-formed, so its step needs no check.
-  step-here : {s : State} → Good base t s → (i : ℕ) → step base t s i ≡ advance base (programOf t) s i
-  unfolding step stepWith
-  step-here {s} g i = rw (fit base t s z (g .fit))
+module _ {t : List ℕ} {l : Layout} {work : ℕ} {order before : List ℕ} {first : State} (f : Followable t l work first order (length before)) {s : State} {buffer : List ℕ} {k : ℕ}
+    (u : Under t order before first s buffer k) where
+  module _ (more : k < length order) where
+    -- The state on the way is well-formed, so its step needs no check.
+    pub fit-here : Fit t l s
+    fit-here = record { known = f .known; formed = rw (u .here) (f .formed k more) }
 
-  module _ {s : State} {buffer : List ℕ} {k : ℕ} (u : Under t order before s buffer k) where
-    pub fit-here : {l : Layout} → Known t l → Fit t l s
-    fit-here h = record { known = h; formed = u .good .fit }
+    step-here : (i : ℕ) → step base t s i ≡ advance base (programOf t) s i
+    unfolding step stepWith
+    step-here i = rw (fit base t s (f .accepted) (fit-here .formed))
 
-    module _ (more : k < length order) where
-      next : drop k order ≡ getD order k 0 ∷ drop (k + 1) order
-      next = rw (add-one k) (drop-cons order k 0 more)
+    next : take (k + 1) order ≡ take k order ++ (getD order k 0 ∷ [])
+    next = rw (add-one k) (take-suc order k 0 more)
 
-      -- One step more.
-      pub under-step : length order ≤ length before → {r : Stepped} {i v : ℕ} → r ≡ advance base (programOf t) s i → i ≡ getD order k 0 → v ≡ answerNumber (r .answer)
-          → Under t order before (r .state) (set buffer k v) (k + 1)
-      unfolding runFrom answersFrom
-      under-step room {r} {i} {v} e read answer =
-          let q : r ≡ step base t s (getD order k 0) = e ∙ rw read (sym (step-here (u .good) (getD order k 0))) in
-          let m = u .sized in
-          let n : ℕ = answerNumber (step base t s (getD order k 0) .answer) in
-          let grown : take (k + 1) (set buffer k n) ≡ take k buffer ++ (n ∷ []) = rw (add-one k) (take-suc-set buffer k n (omega arith)) in
-          rw (answer, q)
-          (record {
-            within = omega arith;
-            good = good-step base t (omega arith) z s (u .good) (getD order k 0);
-            rest = ap (runFrom base t s) (sym next) ∙ u .rest;
-            filled =
-                ap (λ (x : List ℕ). x ++ map answerNumber (answersFrom base t (step base t s (getD order k 0) .state) (drop (k + 1) order)))
-                grown
-                ∙ append-assoc (take k buffer) _ _
-                ∙ ap (λ (o : List ℕ). take k buffer ++ map answerNumber (answersFrom base t s o)) (sym next)
-                ∙ u .filled;
-            kept =
-                drop-set-lt (k + 1) buffer k _ (omega arith)
-                ∙ sym (drop-drop 1 k buffer)
-                ∙ ap (λ (x : List ℕ). drop 1 x) (u .kept)
-                ∙ drop-drop 1 k before;
-            sized = length-set buffer k _ ∙ u .sized;
-          })
+    -- One step more.
+    pub under-step : {r : State} {i v : ℕ} → i ≡ getD order k 0 → r ≡ advance base (programOf t) s i .state → v ≡ answerNumber (advance base (programOf t) s i .answer)
+        → Under t order before first r (set buffer k v) (k + 1)
+    under-step {r} {i} {v} read e answer =
+        let m = u .sized in
+        let n = f .fits in
+        let q : step base t (runFrom base t first (take k order)) (getD order k 0) ≡ advance base (programOf t) s i = rw (← u .here, read) (step-here (getD order k 0)) in
+        let value : v ≡ answerNumber (step base t (runFrom base t first (take k order)) (getD order k 0) .answer) = answer ∙ ap (λ (x : Stepped). answerNumber (x .answer)) (sym q) in
+        let grown : take (k + 1) (set buffer k v) ≡ take k buffer ++ (v ∷ []) = rw (add-one k) (take-suc-set buffer k v (omega arith)) in
+        record {
+          within = omega arith;
+          here = e ∙ ap (λ (x : Stepped). x .state) (sym q) ∙ sym (run-more t (take k order) first (getD order k 0)) ∙ ap (runFrom base t first) (sym next);
+          filled = rw (grown, u .filled, value, next) (sym (answers-more t (take k order) first (getD order k 0)));
+          kept =
+              drop-set-lt (k + 1) buffer k v (omega arith)
+              ∙ sym (drop-drop 1 k buffer)
+              ∙ ap (λ (x : List ℕ). drop 1 x) (u .kept)
+              ∙ drop-drop 1 k before;
+          sized = length-set buffer k v ∙ u .sized;
+        }
 
-    -- The end.
-    pub under-end : length order ≤ k → (s ≡ run base t order) × (buffer ≡ map answerNumber (answers base t order) ++ drop (length order) before)
-    unfolding runFrom answersFrom
-    under-end h =
-        let over : drop k order ≡ [] = drop-of-length-le order h in
-        let last : k ≡ length order = omega (arith, u .within) in
-        let all : take k buffer ≡ map answerNumber (answers base t order)
-        = sym (append-nil (take k buffer)) ∙ ap (λ (o : List ℕ). take k buffer ++ map answerNumber (answersFrom base t s o)) (sym over) ∙ u .filled in
-        (sym (ap (runFrom base t s) over) ∙ u .rest, sym (take-append-drop k buffer) ∙ rw (all, u .kept, last))
+  -- The end.
+  pub under-end : length order ≤ k → (s ≡ runFrom base t first order) × (buffer ≡ answeredFrom t first order before)
+  unfolding answeredFrom
+  under-end h =
+      let last : k ≡ length order = omega (arith, u .within) in
+      let all : take k order ≡ order = take-all k order h in (
+        u .here ∙ ap (runFrom base t first) all,
+        sym (take-append-drop k buffer) ∙ rw (u .filled, u .kept, all, last),
+      )
 
 -- WHAT IT PROMISES
 
@@ -115,10 +113,27 @@ module _ (t order before : List ℕ) where
     unfolding ranOf answered
     runs-short h q = rw q (let m = lt-leb (length order) (length before) h in record { result = rw (z, m); buffer = rw (z, m); demand = demanded })
 
-    pub runs-done : {s : State} {buffer : List ℕ} {k : ℕ} → length order ≤ length before → Under t order before s buffer k → length order ≤ k
-        → Runs t order before buffer (record { completion = completion.Done; state = s })
-    unfolding ranOf answered
-    runs-done room u h =
+    -- An order can be followed from the start: each state of a run is well-formed.
+    pub from-start : {l : Layout} {work : ℕ} {s : State} → Known t l → work ≡ workOf (programOf t) → work ≤ 65535 → length order ≤ length before → s ≡ startState
+        → Followable t l work s order (length before)
+    from-start known counted small room e =
+        rw e
+        (record {
+          known = known;
+          accepted = z;
+          counted = counted;
+          small = small;
+          formed = λ k h. good-run base t (omega arith) z (take k order) startState (good-start base t (omega arith) z) .fit;
+          fits = room;
+        })
+
+    pub runs-done : {s r : State} {buffer : List ℕ} → length order ≤ length before → s ≡ startState → r ≡ runFrom base t s order → buffer ≡ answeredFrom t s order before
+        → Runs t order before buffer (record { completion = completion.Done; state = r })
+    unfolding ranOf answered answeredFrom
+    runs-done room q e f =
         let m = le-leb (length order) (length before) room in
-        let e = under-end t order before z u h in
-        record { result = rw (z, m, e .0); buffer = rw (z, m) (e .1); demand = demanded }
+        record {
+          result = rw (z, m, e, q, run-start base t (omega arith) z order);
+          buffer = rw (z, m, f, q, answers-start base t (omega arith) z order);
+          demand = demanded;
+        }

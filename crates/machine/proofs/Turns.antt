@@ -23,9 +23,11 @@ use Rattle.rules.specs.Effects.{Spawned, nobody, one, Effect, withSpawned, effe
 use Rattle.rules.specs.Steps.{base, at, fault, effect, refusal, exceeds, stepped, advance}
 use Rattle.rules.proofs.WellFormedApply.{turn, room}
 use Rattle.rules.proofs.WellFormedFacts.{Facts, facts}
-use Rattle.machine.specs.Apply.{Room}
 use Rattle.machine.specs.Stack.{Stacked}
-use Rattle.machine.specs.Perform.{Performing}
+use Rattle.machine.specs.Change.{whole, lone, Alters, Does, IsChild}
+use Rattle.machine.specs.Perform.{Performing, Performed}
+use Rattle.machine.specs.declared.change.Shared.{Shared}
+use Rattle.machine.specs.declared.change.Change.{Change}
 use Rattle.machine.specs.Turn.{Fit, Turn}
 use Rattle.machine.proofs.Facing.{stack-of, facing}
 
@@ -81,24 +83,19 @@ module _ {t : List ℕ} {l : Layout} {s : State} {i : ℕ} {a : Activity} {f : �
   stands-here = rw (h .own) (h .stands)
 
   -- One more step fits.
-  pub stepping : exceeds base (programOf t) s (effect (programOf t) s i) ≡ false → Room s i
-  stepping x =
-      record { below = omega (arith, made, made-few); left = omega (arith, h .worked, room base (programOf t) s (effect (programOf t) s i) x .steps) }
+  pub stepping : exceeds base (programOf t) s (effect (programOf t) s i) ≡ false → s .steps < 65535
+  stepping x = omega (arith, h .worked, room base (programOf t) s (effect (programOf t) s i) x .steps)
 
   -- A fault ends it.
-  pub failed-state : {r : State} → (f ≡ 0 → ⊥) → r ≡ applied s i (failing a (Faulted (faultOf f))) → r ≡ applied s i (effect (programOf t) s i)
+  failed : (f ≡ 0 → ⊥) → effect (programOf t) s i ≡ failing a (Faulted (faultOf f))
   unfolding effect
-  failed-state n e = e ∙ rw (h .own, sym (h .met), ne-eqb f 0 n)
+  failed n = rw (h .own, sym (h .met), ne-eqb f 0 n)
 
   module _ (z : f ≡ 0) where
     -- The effect is the command's.
     doing : effect (programOf t) s i ≡ effectOf (programOf t) (envOf s) i a command (here (programOf t) (top a) .inner)
     unfolding effect at
     doing = rw (h .own, h .stands, sym (h .met) ∙ z)
-
-    pub done-state : {r : State} → r ≡ applied s i (effectOf (programOf t) (envOf s) i a command (here (programOf t) (top a) .inner))
-        → r ≡ applied s i (effect (programOf t) s i)
-    done-state e = e ∙ ap (applied s i) (sym doing)
 
     -- What the command needs.
     pub performing : {next : ℕ} → exceeds base (programOf t) s (effect (programOf t) s i) ≡ false → (isEnd command ≡ false → next ≡ nextOffset (programOf t) (top a))
@@ -117,3 +114,33 @@ module _ {t : List ℕ} {l : Layout} {s : State} {i : ℕ} {a : Activity} {f : �
           faultless = rw (h .own, h .stands) (sym (h .met) ∙ z);
           fits = rw doing at x;
         }
+
+-- IN TWO PARTS
+
+module _ {t : List ℕ} {l : Layout} {acts : List Activity} {e : Shared} {i : ℕ} {a : Activity} {f : ℕ} {command : Command} (h : Turn t l (whole acts e) i a f command) where
+  -- What a command needs does not depend on the other activities.
+  pub performing-alone : f ≡ 0 → {next : ℕ} → exceeds base (programOf t) (whole acts e) (effect (programOf t) (whole acts e) i) ≡ false
+      → (isEnd command ≡ false → next ≡ nextOffset (programOf t) (top a)) → Performing t l (lone e) i a command next
+  unfolding exceeds
+  performing-alone z x on =
+      let g = performing h z x on in
+      record {
+        known = g .known;
+        below = g .below;
+        work = g .work;
+        stack = g .stack;
+        stands = g .stands;
+        onward = g .onward;
+        bindings = g .bindings;
+        faultless = g .faultless;
+        fits = g .fits;
+      }
+
+  -- What was changed is the effect's.
+  pub failed-change : (r : Change) (c : Activity) → (f ≡ 0 → ⊥) → Does e r (failing a (Faulted (faultOf f))) → Alters e c r (effect (programOf t) (whole acts e) i)
+  unfolding Does
+  failed-change r c n d = rw (failed h n) (d c)
+
+  pub done-change : (r : Change) (c : Activity) → f ≡ 0 → IsChild i a command c → Performed (programOf t) e i a command r → Alters e c r (effect (programOf t) (whole acts e) i)
+  unfolding Performed
+  done-change r c z so d = rw (doing h z) (d c so)

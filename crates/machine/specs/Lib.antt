@@ -1,6 +1,6 @@
 pub mod Known
 pub mod Stack
-pub mod Apply
+pub mod Change
 pub mod Facing
 pub mod Turn
 pub mod Ran

@@ -8,6 +8,7 @@ use Rattle.program.specs.Command.{isEnd}
 use Rattle.program.specs.Bodies.{Program, programOf}
 use Rattle.program.specs.Count.{workOf}
 use Rattle.program.specs.declared.command.Command.{Command}
+use Rattle.program.specs.declared.command.Command.the-variants.{Async}
 use Rattle.program.specs.declared.scan.Layout.{Layout}
 use Rattle.rules.specs.declared.state.Hold.{Hold}
 use Rattle.rules.specs.declared.state.Activity.{Activity}
@@ -16,12 +17,15 @@ use Rattle.rules.specs.State.{noHold, top, bound}
 use Rattle.rules.specs.Clocks.{pass}
 use Rattle.rules.specs.Tree.{here, nextOffset}
 use Rattle.rules.specs.Faults.{faultFor}
-use Rattle.rules.specs.Effects.{Touch, touching, effectOf, envOf, applied}
+use Rattle.rules.specs.Effects.{Touch, touching, effectOf, envOf}
 use Rattle.rules.specs.Steps.{base, exceeds}
 use Rattle.machine.specs.Known.{Known}
 use Rattle.machine.specs.Stack.{Stacked}
 use Rattle.machine.specs.Cells.{Agrees}
 use Rattle.machine.specs.declared.cells.Touched.{Touched}
+use Rattle.machine.specs.declared.change.Shared.{Shared}
+use Rattle.machine.specs.declared.change.Change.{Change}
+use Rattle.machine.specs.Change.{lone, Alters, Does, IsChild}
 
 -- Passing keeps each phase within its limit.
 unfoldable pub Passable : List Hold → Type 0
@@ -31,16 +35,24 @@ Passable holds = (k : ℕ) → k < 8 → pass (getD holds k noHold) .phase ≤ 6
 unfoldable pub Becomes : Activity → ℕ → (Program → Activity) → Activity → Type 0
 Becomes a next f r = (p : Program) → next ≡ nextOffset p (top a) → r ≡ f p
 
--- A state after a command's effect, for whichever program puts its next command at `next`.
-unfoldable pub Does : State → ℕ → Activity → Command → ℕ → State → Type 0
-Does s i a command next r = (p : Program) (inner : List Command) → next ≡ nextOffset p (top a) → r ≡ applied s i (effectOf p (envOf s) i a command inner)
+-- What a command of activity i changes, for whichever program puts its next command at `next`; and of one that does the same for each i.
+unfoldable pub PerformsAs : Shared → ℕ → Activity → Command → ℕ → Change → Type 0
+PerformsAs e i a command next r = (p : Program) (inner : List Command) (c : Activity) → next ≡ nextOffset p (top a) → IsChild i a command c
+    → Alters e c r (effectOf p (envOf (lone e)) i a command inner)
 
--- A state after a touch of its cells, and the same where the cells are given by value.
-unfoldable pub TouchedBy : State → ℕ → Activity → Touch → ℕ → State → Type 0
-TouchedBy s i a x next r = (p : Program) → next ≡ nextOffset p (top a) → r ≡ applied s i (touching p a x)
+unfoldable pub Performs : Shared → Activity → Command → ℕ → Change → Type 0
+Performs e a command next r = (i : ℕ) → PerformsAs e i a command next r
 
-unfoldable pub Touches : State → ℕ → Activity → Touched → ℕ → State → Type 0
-Touches s i a t next r = (x : Touch) → Agrees (s .cells) x t → TouchedBy s i a x next r
+-- ASYNC changes the same whatever it names.
+unfoldable pub PerformsAsync : Shared → Activity → ℕ → Change → Type 0
+PerformsAsync e a next r = (b m : ℕ) → Performs e a (Async b m) next r
+
+-- What a touch of the cells changes, and the same where the cells are given by value.
+unfoldable pub TouchedBy : Shared → Activity → Touch → ℕ → Change → Type 0
+TouchedBy e a x next r = (p : Program) → next ≡ nextOffset p (top a) → Does e r (touching p a x)
+
+unfoldable pub Touches : Shared → Activity → Touched → ℕ → Change → Type 0
+Touches e a t next r = (x : Touch) → Agrees (e .cells) x t → TouchedBy e a x next r
 
 -- An accumulator is bound to a name.
 pub record Bound (a : Activity) (n : ℕ) : Type 0 where
@@ -59,3 +71,7 @@ pub record Performing (t : List ℕ) (l : Layout) (s : State) (i : ℕ) (a : Act
   pub bindings : (n : ℕ) → n < 8 → bound a n ≤ 16
   pub faultless : faultFor (programOf t) (envOf s) i a command ≡ 0
   pub fits : exceeds base (programOf t) s (effectOf (programOf t) (envOf s) i a command (here (programOf t) (top a) .inner)) ≡ false
+
+-- What a command changes that activity i, which is a, stands on.
+unfoldable pub Performed : Program → Shared → ℕ → Activity → Command → Change → Type 0
+Performed p e i a command r = (c : Activity) → IsChild i a command c → Alters e c r (effectOf p (envOf (lone e)) i a command (here p (top a) .inner))

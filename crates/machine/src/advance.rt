@@ -1,78 +1,134 @@
-// A step of one activity of a well-formed state.
+// Turns, one after another: the activities stay where they are, and each turn changes only its own and what is shared.
 ghost use mathlib.Core.Path.{_≡_};
-ghost use mathlib.Core.Bool.{false};
-ghost use Prim.Native.Nat.{_≤_};
-ghost use Rattle.program.specs.Bodies.{programOf};
-ghost use Rattle.program.specs.Count.{workOf};
-ghost use Rattle.rules.specs.Effects.{applied};
-ghost use Rattle.rules.specs.Steps.{base, effect, exceeds, advance};
-ghost use Rattle.machine.specs.Turn.{Fit, Turn};
+ghost use Prim.Native.Nat.{_<_};
+ghost use lib.ListN.{length};
+ghost use Rattle.rules.specs.Steps.{base};
+ghost use Rattle.rules.specs.Runs.{runFrom};
+ghost use Rattle.machine.specs.Change.{IsChild};
+ghost use Rattle.machine.specs.Turn.{Taking, Taken, Due, Turned, Followable, answeredFrom};
+use super::change::Change;
+use super::change::Shared;
+use super::change::shared_of;
+use super::change::unmoved;
+use super::change::whole;
+use super::effects::child;
 use super::limits::exceeds;
+use super::look::Seen;
 use super::look::look;
 use super::perform::fail;
 use super::perform::perform;
 use super::place::next_offset;
+use super::waiting::waits_at;
 use program::command::Command;
 use program::command::is_end;
+use program::command::operands;
 use program::command::wide;
 use program::scan::Layout;
-use rules::answer::Answer;
-use rules::answer::Stepped;
 use rules::state::Activity;
 use rules::state::State;
 
-// The state after a step that is not turned down.
+// What a step that is not turned down changes.
 fn taken(
     table: &[u8],
     layout: Layout,
-    s: State,
+    e: Shared,
     i: usize,
     a: Activity,
     fault: u8,
     command: Command,
-) -> State
-    requires { ⌜ Turn (now table) layout s i a fault command × (exceeds base (programOf (now table)) s (effect (programOf (now table)) s i) ≡ false) ⌝ }
-    ensures { λ r. ⌜ r ≡ applied s i (effect (programOf (now (table .entry))) s i) ⌝ }
+) -> Change
+    requires { ⌜ Taking (now table) layout e i a fault command ⌝ }
+    ensures { λ r. ⌜ Taken (now (table .entry)) layout e i a fault command r ⌝ }
 {
     if fault != 0 {
-        return fail(s, i, a, fault);
+        return fail(e, a, fault);
     }
     if is_end(command) {
-        return perform(table, layout, s, i, a, command, 0);
+        return perform(table, layout, e, i, a, command, 0);
     }
     let at = wide(a.depth) - 1;
     let f = a.frames[at];
     let next = next_offset(table, f, command);
-    perform(table, layout, s, i, a, command, next)
+    perform(table, layout, e, i, a, command, next)
 }
 
-// A step: numbers 14 to 17, or the one next state.
-pub fn advance(table: &[u8], layout: Layout, work: u64, s: State, i: usize) -> Stepped
-    requires { ⌜ Fit (now table) layout s × (work ≡ workOf (programOf (now table))) × (work ≤ 65535) ⌝ }
-    ensures { λ r. ⌜ r ≡ advance base (programOf (now (table .entry))) s i ⌝ }
+// A turn of an activity that was spawned: numbers 15 to 17 change nothing.
+fn turn(
+    table: &[u8],
+    layout: Layout,
+    work: u64,
+    e: Shared,
+    i: usize,
+    a: Activity,
+    seen: Seen,
+    waits: bool,
+) -> Change
+    requires { ⌜ Due (now table) layout work e i a seen waits ⌝ }
+    ensures { λ r. ⌜ Turned (now (table .entry)) layout work e i a seen waits r ⌝ }
 {
-    let seen = look(table, layout, s, i);
-    let number = seen.number;
-    if number != 0 {
-        return Stepped {
-            answer: Answer::Refused(number),
-            state: s,
-        };
+    if seen.number != 0 {
+        return unmoved(e, a, seen.number);
     }
-    let a = s.acts[i];
+    if waits {
+        return unmoved(e, a, 16);
+    }
     let fault = seen.fault;
     let command = seen.command;
-    if exceeds(work, s, a, fault, command) {
-        return Stepped {
-            answer: Answer::Refused(17),
-            state: s,
-        };
+    if exceeds(work, e, a, fault, command) {
+        return unmoved(e, a, 17);
     }
-    let state = taken(table, layout, s, i, a, fault, command);
-    let own = state.acts[i];
-    let status = own.status;
-    Stepped {
-        answer: Answer::Accepted(status),
-        state,
+    taken(table, layout, e, i, a, fault, command)
+}
+
+// The activity that ASYNC spawns; of another command it means nothing.
+fn child_of(i: usize, a: Activity, command: Command) -> Activity
+    requires { ⌜ i < 64 ⌝ }
+    ensures { λ r. ⌜ IsChild i a command r ⌝ }
+{
+    let bytes = operands(command);
+    child(i, a, bytes[0], bytes[1])
+}
+
+// A turn for each byte of the order, from a well-formed state. The number of each answer goes into the buffer.
+pub fn follow(
+    table: &[u8],
+    layout: Layout,
+    work: u64,
+    s: State,
+    order: &[u8],
+    answers: &mut [u8],
+) -> State
+    requires { ⌜ Followable (now table) layout work s (now order) (length (now answers)) ⌝ }
+    ensures { λ r. ⌜ r ≡ runFrom base (now (table .entry)) s (now (order .entry)) ⌝ }
+    ensures { λ _. ⌜ now (answers .exit) ≡ answeredFrom (now (table .entry)) s (now (order .entry)) (now (answers .entry)) ⌝ }
+{
+    let mut acts = s.acts;
+    let mut shared = shared_of(s);
+    let mut k: usize = 0;
+    while k < order.len() {
+        let i = wide(order[k]);
+        let made = wide(shared.activities);
+        let mut number: u8 = 14;
+        if i < made {
+            let a = acts[i];
+            let seen = look(table, layout, shared, i, a);
+            let command = seen.command;
+            let mut waits = false;
+            if seen.asks {
+                waits = waits_at(table, layout, whole(acts, shared), i, a, command);
+            }
+            let change = turn(table, layout, work, shared, i, a, seen, waits);
+            let own = change.own;
+            acts[i] = own;
+            if change.spawned {
+                acts[made] = child_of(i, a, command);
+            }
+            let after = change.shared;
+            shared = after;
+            number = change.number;
+        }
+        answers[k] = number;
+        k += 1;
     }
+    whole(acts, shared)
 }

@@ -9,9 +9,11 @@ ghost use Rattle.rules.specs.Clocks.{holds};
 ghost use Rattle.rules.specs.Tree.{finishes, inOwnFinish};
 ghost use Rattle.rules.specs.Faults.{unbound, asyncFault, readFault, faultFor};
 ghost use Rattle.rules.specs.Effects.{envOf};
+ghost use Rattle.machine.specs.Change.{lone};
 ghost use Rattle.machine.specs.Known.{Known};
 ghost use Rattle.machine.specs.Stack.{Stacked};
 ghost use Rattle.machine.specs.Facing.{Facing};
+use super::change::Shared;
 use super::place::command_at;
 use clocks::own::holds_some;
 use clocks::own::lends_quiesced;
@@ -22,7 +24,6 @@ use program::command::wide;
 use program::scan::Layout;
 use rules::checks::is_held;
 use rules::state::Activity;
-use rules::state::State;
 
 // The command byte of FINISH.
 const FINISH: usize = 6;
@@ -127,9 +128,9 @@ fn offer_fault(a: Activity, n: u8) -> u8
 }
 
 // READ and RESET: F5, F6 and F7, tried in this order.
-fn read_fault(s: State, i: usize, a: Activity, n: u8) -> u8
+fn read_fault(e: Shared, i: usize, a: Activity, n: u8) -> u8
     requires { ⌜ (n < 8) × (bound a n ≤ 16) ⌝ }
-    ensures { λ r. ⌜ r ≡ readFault (envOf s) i a n ⌝ }
+    ensures { λ r. ⌜ r ≡ readFault (envOf (lone e)) i a n ⌝ }
 {
     let at = wide(n);
     let entry = a.accumulators[at];
@@ -137,7 +138,7 @@ fn read_fault(s: State, i: usize, a: Activity, n: u8) -> u8
         return 5;
     }
     let number = wide(entry) - 1;
-    let accumulator = s.accs[number];
+    let accumulator = e.accs[number];
     if wide(accumulator.owner) != i {
         return 6;
     }
@@ -151,13 +152,13 @@ fn read_fault(s: State, i: usize, a: Activity, n: u8) -> u8
 pub fn fault_for(
     table: &[u8],
     layout: Layout,
-    s: State,
+    e: Shared,
     i: usize,
     a: Activity,
     command: Command,
 ) -> u8
     requires { ⌜ Facing (now table) layout a command ⌝ }
-    ensures { λ r. ⌜ r ≡ faultFor (programOf (now (table .entry))) (envOf s) i a command ⌝ }
+    ensures { λ r. ⌜ r ≡ faultFor (programOf (now (table .entry))) (envOf (lone e)) i a command ⌝ }
 {
     match command {
         Command::End => 0,
@@ -170,8 +171,8 @@ pub fn fault_for(
         Command::Repeat(_, _) => 0,
         Command::Acc(_, _) => 0,
         Command::Offer(n) => offer_fault(a, n),
-        Command::Read(n) => read_fault(s, i, a, n),
-        Command::Reset(n) => read_fault(s, i, a, n),
+        Command::Read(n) => read_fault(e, i, a, n),
+        Command::Reset(n) => read_fault(e, i, a, n),
         Command::Put(_) => 0,
         Command::Fetch(_) => 0,
         Command::Store(_) => 0,

@@ -5,7 +5,7 @@ ghost use Prim.Native.Nat.{_<_};
 ghost use lib.Dec.{leb, eqb};
 ghost use Rattle.rules.specs.Search.{someBelow};
 ghost use Rattle.rules.specs.Waiting.{unendedInside};
-ghost use Rattle.machine.specs.Apply.{Rooted};
+ghost use Rattle.machine.specs.Facing.{Rooted};
 use rules::checks::is_ended;
 use rules::state::State;
 

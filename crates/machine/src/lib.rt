@@ -1,11 +1,10 @@
 // The machine: start, one step, the ready set, the standing sheet and whole runs.
 ghost use mathlib.Core.Path.{_≡_};
 ghost use Rattle.rules.specs.Steps.{base, start, step, ready, registrations, registrationsNumber};
-ghost use Rattle.machine.specs.Ran.{Runs};
-use advance::advance;
+ghost use Rattle.machine.specs.Ran.{answerBy, Runs};
+use advance::follow;
 use clocks::sheet::sheet_of;
 use look::ready_set;
-use program::command::wide;
 use program::table::read_table;
 use rules::answer::Answer;
 use rules::answer::Completion;
@@ -14,7 +13,6 @@ use rules::answer::Ready;
 use rules::answer::Stepped;
 use rules::empty::start_state;
 use rules::empty::zero_state;
-use rules::numbers::answer_number;
 use rules::state::State;
 use rules::state::Status;
 use wellformed::check;
@@ -22,16 +20,16 @@ use wellformed::check;
 mod place; // place.rt: the command that a frame stands on, and the place after it
 mod stack; // stack.rt: an activity's stack of bodies
 mod cells; // cells.rt: FETCH, STORE and ADD on the cells by value
-mod apply; // apply.rt: a state after an effect
+mod change; // change.rt: what a turn changes
 mod effects; // effects.rt: what a command does to its activity
-mod commands; // commands.rt: what a command does to a state
+mod commands; // commands.rt: what a command changes
 mod perform; // perform.rt: a step that goes on, and a step that faults
 mod inside; // inside.rt: whether someone inside a finish has not ended
 mod faults; // faults.rt: the fault that a command meets
 mod waiting; // waiting.rt: whether an activity waits
-mod look; // look.rt: numbers 14 to 16, the fault and the command
+mod look; // look.rt: number 15, the fault and the command; the ready set
 mod limits; // limits.rt: number 17
-mod advance; // advance.rt: a step of one activity of a well-formed state
+mod advance; // advance.rt: turns, one after another
 
 // The start state of a table: numbers 1 to 12.
 pub fn start(table: &[u8]) -> Stepped
@@ -50,6 +48,19 @@ pub fn start(table: &[u8]) -> Stepped
     }
 }
 
+// A step's answer from its number and the activity's status after it: 1 to 17 are refused.
+fn answer_of(number: u8, status: Status) -> Answer
+    ensures { λ r. ⌜ r ≡ answerBy number status ⌝ }
+{
+    if number == 0 {
+        return Answer::Accepted(status);
+    }
+    if number < 100 {
+        return Answer::Refused(number);
+    }
+    Answer::Accepted(status)
+}
+
 // A step of an activity, whichever the host picks: numbers 1 to 17.
 pub fn step(table: &[u8], s: State, activity: usize) -> Stepped
     ensures { λ r. ⌜ r ≡ step base (now (table .entry)) s activity ⌝ }
@@ -62,9 +73,23 @@ pub fn step(table: &[u8], s: State, activity: usize) -> Stepped
             state: s,
         };
     }
+    if 64 <= activity {
+        return Stepped {
+            answer: Answer::Refused(14),
+            state: s,
+        };
+    }
     let known = checked.table;
     let layout = known.layout;
-    advance(table, layout, known.work, s, activity)
+    let order = [activity as u8];
+    let mut answers = [0u8];
+    let state = follow(table, layout, known.work, s, &order, &mut answers);
+    let own = state.acts[activity];
+    let status = own.status;
+    Stepped {
+        answer: answer_of(answers[0], status),
+        state,
+    }
 }
 
 // Who can step: numbers 1 to 13.
@@ -116,15 +141,7 @@ pub fn run(table: &[u8], order: &[u8], answers: &mut [u8]) -> Ran
     }
     let layout = found.layout;
     let work = found.work;
-    let mut state = start_state();
-    let mut k: usize = 0;
-    while k < order.len() {
-        let done = advance(table, layout, work, state, wide(order[k]));
-        let answer = done.answer;
-        answers[k] = answer_number(answer);
-        state = done.state;
-        k += 1;
-    }
+    let state = follow(table, layout, work, start_state(), order, answers);
     Ran {
         completion: Completion::Done,
         state,

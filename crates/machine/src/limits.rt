@@ -1,13 +1,14 @@
 // Number 17: what a step would need more than there is.
 ghost use mathlib.Core.Path.{_≡_};
+ghost use Rattle.machine.specs.Change.{lone};
 ghost use Rattle.machine.specs.Turn.{overfull, isLast, overtakes, exceedsAt};
+use super::change::Shared;
 use program::command::Command;
 use program::command::opcode;
 use rules::checks::is_at_barrier;
 use rules::checks::is_held;
 use rules::state::Activity;
 use rules::state::Hold;
-use rules::state::State;
 
 // The command bytes of ASYNC, CLOCK and ACC, which make an activity, a clock and an accumulator.
 const ASYNC: usize = 5;
@@ -17,18 +18,18 @@ const CLOCK: usize = 2;
 const ACC: usize = 8;
 
 // Whether the command makes a 65th activity, a 17th clock or a 17th accumulator.
-fn overfull(s: State, command: Command) -> bool
-    ensures { λ r. ⌜ r ≡ overfull s command ⌝ }
+fn overfull(e: Shared, command: Command) -> bool
+    ensures { λ r. ⌜ r ≡ overfull (lone e) command ⌝ }
 {
     let op = opcode(command);
     if op == ASYNC {
-        return 64 <= s.activities;
+        return 64 <= e.activities;
     }
     if op == CLOCK {
-        return 16 <= s.clocks;
+        return 16 <= e.clocks;
     }
     if op == ACC {
-        return 16 <= s.accumulators;
+        return 16 <= e.accumulators;
     }
     false
 }
@@ -64,16 +65,16 @@ fn overtakes(a: Activity) -> bool
 }
 
 // Number 17: more steps than the work, or what there is no room for.
-pub fn exceeds(work: u64, s: State, a: Activity, fault: u8, command: Command) -> bool
-    ensures { λ r. ⌜ r ≡ exceedsAt work s a fault command ⌝ }
+pub fn exceeds(work: u64, e: Shared, a: Activity, fault: u8, command: Command) -> bool
+    ensures { λ r. ⌜ r ≡ exceedsAt work (lone e) a fault command ⌝ }
 {
-    if work <= s.steps as u64 {
+    if work <= e.steps as u64 {
         return true;
     }
     if fault != 0 {
         return false;
     }
-    if overfull(s, command) {
+    if overfull(e, command) {
         return true;
     }
     overtakes(a)

@@ -1,68 +1,76 @@
-// What is met on the way to a step: numbers 14 to 16, the fault and the command.
+// What is met on the way to a step: number 15, the fault, the command, and whether there is something to wait for.
 ghost use mathlib.Core.Path.{_≡_};
+ghost use mathlib.Core.Bool.{cond};
+ghost use lib.Dec.{eqb};
 ghost use Rattle.program.specs.Bodies.{programOf};
 ghost use Rattle.rules.specs.Search.{bitsBelow};
 ghost use Rattle.rules.specs.Steps.{canStep};
+ghost use Rattle.machine.specs.Facing.{Able};
 ghost use Rattle.machine.specs.Turn.{Fit, Sees};
+use super::change::Shared;
+use super::change::shared_of;
 use super::faults::fault_for;
 use super::place::command_at;
+use super::waiting::asks;
 use super::waiting::waits_at;
 use program::command::Command;
 use program::command::wide;
 use program::scan::Layout;
 use rules::checks::is_ended;
+use rules::state::Activity;
 use rules::state::State;
 
-// The number 14 to 16, or 0 with the fault and the command.
+// Number 15 or 0; the fault and the command; and whether the other activities are to be looked at.
 pub struct Seen {
     pub number: u8,
     pub fault: u8,
+    pub asks: bool,
     pub command: Command,
 }
 
-// Turned down with a number.
-fn turned_down(number: u8) -> Seen
-    ensures { λ r. ⌜ r .number ≡ number ⌝ }
+// An activity that was spawned, and its command, read once.
+pub fn look(table: &[u8], layout: Layout, e: Shared, i: usize, a: Activity) -> Seen
+    requires { ⌜ Able (now table) layout a ⌝ }
+    ensures { λ r. ⌜ Sees (programOf (now (table .entry))) e i a r ⌝ }
 {
-    Seen {
-        number,
-        fault: 0,
-        command: Command::End,
-    }
-}
-
-// Numbers 14 to 16 in checking order, and the command, read once.
-pub fn look(table: &[u8], layout: Layout, s: State, i: usize) -> Seen
-    requires { ⌜ Fit (now table) layout s ⌝ }
-    ensures { λ r. ⌜ Sees (programOf (now (table .entry))) s i r ⌝ }
-{
-    if wide(s.activities) <= i {
-        return turned_down(14);
-    }
-    let a = s.acts[i];
     let status = a.status;
     if is_ended(status) {
-        return turned_down(15);
+        return Seen {
+            number: 15,
+            fault: 0,
+            asks: false,
+            command: Command::End,
+        };
     }
     let at = wide(a.depth) - 1;
     let f = a.frames[at];
     let command = command_at(table, layout, f);
-    let fault = fault_for(table, layout, s, i, a, command);
+    let fault = fault_for(table, layout, e, i, a, command);
     if fault != 0 {
         return Seen {
             number: 0,
             fault,
+            asks: false,
             command,
         };
     }
-    if waits_at(table, layout, s, i, a, command) {
-        return turned_down(16);
-    }
+    let open = asks(table, layout, a, command);
     Seen {
         number: 0,
         fault: 0,
+        asks: open,
         command,
     }
+}
+
+// Whether 15 and 16 do not apply.
+fn goes(seen: Seen, waits: bool) -> bool
+    ensures { λ r. ⌜ r ≡ eqb (cond waits 16 (seen .number)) 0 ⌝ }
+{
+    if waits {
+        return false;
+    }
+    seen.number == 0
 }
 
 // The ready set: bit i for activity i, set where 14 to 16 do not apply.
@@ -70,11 +78,19 @@ pub fn ready_set(table: &[u8], layout: Layout, s: State) -> u64
     requires { ⌜ Fit (now table) layout s ⌝ }
     ensures { λ r. ⌜ r ≡ bitsBelow 64 (canStep (programOf (now (table .entry))) s) ⌝ }
 {
+    let e = shared_of(s);
+    let made = wide(s.activities);
     let mut set: u64 = 0;
     let mut i: usize = 0;
-    while i < 64 {
-        let seen = look(table, layout, s, i);
-        if seen.number == 0 {
+    while i < made {
+        let a = s.acts[i];
+        let seen = look(table, layout, e, i, a);
+        let command = seen.command;
+        let mut waits = false;
+        if seen.asks {
+            waits = waits_at(table, layout, s, i, a, command);
+        }
+        if goes(seen, waits) {
             set |= 1u64 << i;
         }
         i += 1;

@@ -2,12 +2,14 @@
 ghost use mathlib.Core.Path.{_≡_};
 ghost use Rattle.program.specs.Bodies.{programOf};
 ghost use Rattle.rules.specs.declared.state.Status.the-variants.{Faulted};
-ghost use Rattle.rules.specs.State.{faultOf, top};
-ghost use Rattle.rules.specs.Tree.{here};
-ghost use Rattle.rules.specs.Effects.{failing, effectOf, envOf, applied};
-ghost use Rattle.machine.specs.Apply.{Room};
-ghost use Rattle.machine.specs.Perform.{Performing};
-use super::apply::alone;
+ghost use Rattle.rules.specs.State.{faultOf};
+ghost use Rattle.rules.specs.Effects.{failing};
+ghost use Prim.Native.Nat.{_<_};
+ghost use Rattle.machine.specs.Change.{lone, Does};
+ghost use Rattle.machine.specs.Perform.{Performing, Performed};
+use super::change::Change;
+use super::change::Shared;
+use super::change::alone;
 use super::commands::accumulate;
 use super::commands::atom;
 use super::commands::cell;
@@ -28,47 +30,46 @@ use program::command::Command;
 use program::scan::Layout;
 use rules::numbers::fault_of;
 use rules::state::Activity;
-use rules::state::State;
 use rules::state::Status;
 
 // The effect of a command that meets no fault.
 pub fn perform(
     table: &[u8],
     layout: Layout,
-    s: State,
+    e: Shared,
     i: usize,
     a: Activity,
     command: Command,
     next: u16,
-) -> State
-    requires { ⌜ Performing (now table) layout s i a command next ⌝ }
-    ensures { λ r. ⌜ r ≡ applied s i (effectOf (programOf (now (table .entry))) (envOf s) i a command (here (programOf (now (table .entry))) (top a) .inner)) ⌝ }
+) -> Change
+    requires { ⌜ Performing (now table) layout (lone e) i a command next ⌝ }
+    ensures { λ r. ⌜ Performed (programOf (now (table .entry))) e i a command r ⌝ }
 {
     match command {
-        Command::End => alone(s, i, end_of(table, layout, a)),
-        Command::Next => meet(s, i, a, next),
-        Command::Clock(c) => clock(s, i, a, c, next),
-        Command::Resume(c) => resume(s, i, a, c, next),
-        Command::Drop(c) => leave(s, i, a, c, next),
-        Command::Async(b, m) => spawn(s, i, a, b, m, next),
-        Command::Finish(b) => finish(s, i, a, b),
-        Command::Repeat(n, b) => repeat(s, i, a, n, b, next),
-        Command::Acc(n, o) => accumulate(s, i, a, n, o, next),
-        Command::Offer(n) => offer(s, i, a, n, next),
-        Command::Read(n) => read(s, i, a, n, next),
-        Command::Reset(n) => reset(s, i, a, n, next),
-        Command::Put(v) => put(s, i, a, v, next),
-        Command::Fetch(_) => cell(s, i, a, command, next),
-        Command::Store(_) => cell(s, i, a, command, next),
-        Command::Add(_) => cell(s, i, a, command, next),
-        Command::Atom(k) => atom(table, layout, s, i, a, k, next),
+        Command::End => alone(e, end_of(table, layout, a)),
+        Command::Next => meet(e, a, next),
+        Command::Clock(c) => clock(e, a, c, next),
+        Command::Resume(c) => resume(e, a, c, next),
+        Command::Drop(c) => leave(e, a, c, next),
+        Command::Async(_, _) => spawn(e, a, next),
+        Command::Finish(b) => finish(e, a, b),
+        Command::Repeat(n, b) => repeat(e, a, n, b, next),
+        Command::Acc(n, o) => accumulate(e, i, a, n, o, next),
+        Command::Offer(n) => offer(e, a, n, next),
+        Command::Read(n) => read(e, a, n, next),
+        Command::Reset(n) => reset(e, a, n, next),
+        Command::Put(v) => put(e, a, v, next),
+        Command::Fetch(_) => cell(e, a, command, next),
+        Command::Store(_) => cell(e, a, command, next),
+        Command::Add(_) => cell(e, a, command, next),
+        Command::Atom(k) => atom(table, layout, e, a, k, next),
     }
 }
 
 // A fault ends the activity.
-pub fn fail(s: State, i: usize, a: Activity, fault: u8) -> State
-    requires { ⌜ Room s i ⌝ }
-    ensures { λ r. ⌜ r ≡ applied s i (failing a (Faulted (faultOf fault))) ⌝ }
+pub fn fail(e: Shared, a: Activity, fault: u8) -> Change
+    requires { ⌜ e .steps < 65535 ⌝ }
+    ensures { λ r. ⌜ Does e r (failing a (Faulted (faultOf fault))) ⌝ }
 {
-    alone(s, i, stopped(a, Status::Faulted(fault_of(fault))))
+    alone(e, stopped(a, Status::Faulted(fault_of(fault))))
 }

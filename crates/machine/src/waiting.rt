@@ -10,17 +10,26 @@ ghost use Rattle.rules.specs.Tree.{inFinishBody};
 ghost use Rattle.rules.specs.Waiting.{behindOf, unendedBelow, waitsAt};
 ghost use Rattle.machine.specs.Known.{Known};
 ghost use Rattle.machine.specs.Stack.{Stacked};
-ghost use Rattle.machine.specs.Apply.{Rooted};
-ghost use Rattle.machine.specs.Facing.{Placed};
+ghost use Rattle.machine.specs.Facing.{Rooted, Placed, Asks};
 use super::faults::finishes;
 use super::inside::someone_inside;
 use clocks::barrier::someone_behind;
 use program::command::Command;
+use program::command::opcode;
 use program::command::wide;
 use program::scan::Layout;
 use rules::checks::is_at_barrier;
 use rules::state::Activity;
 use rules::state::State;
+
+// The command bytes of those that may wait.
+const END: usize = 0;
+
+const NEXT: usize = 1;
+
+const READ: usize = 10;
+
+const RESET: usize = 11;
 
 // Whether the body at the top is one that a FINISH runs.
 pub fn in_finish_body(table: &[u8], layout: Layout, a: Activity) -> bool
@@ -96,4 +105,20 @@ pub fn waits_at(
         Command::Add(_) => false,
         Command::Atom(_) => false,
     }
+}
+
+// Whether there is something to wait for at all: only then are the other activities looked at.
+pub fn asks(table: &[u8], layout: Layout, a: Activity, command: Command) -> bool
+    requires { ⌜ Known (now table) layout × Stacked (programOf (now table)) a ⌝ }
+    ensures { λ r. ⌜ Asks (programOf (now (table .entry))) a command r ⌝ }
+{
+    let op = opcode(command);
+    if op == END {
+        return in_finish_body(table, layout, a);
+    }
+    if op == NEXT {
+        let status = a.status;
+        return is_at_barrier(status);
+    }
+    op == READ || op == RESET
 }

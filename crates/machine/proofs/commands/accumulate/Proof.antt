@@ -1,7 +1,8 @@
 -- The activity goes on, and the state is the definition's.
 use mathlib.Core.Path.{_∙_}
 use Rattle.rules.specs.Effects.{effectOf}
-use Rattle.machine.specs.Perform.{Does}
+use Rattle.machine.specs.Change.{Does}
+use Rattle.machine.specs.Perform.{PerformsAs}
 use Rattle.machine.proofs.Stacks.{moved-past}
 use borrow.Author.Needs.{needs}
 use Rattle.machine.proofs.commands.accumulate.Statement.{statement}
@@ -29,10 +30,10 @@ making-requires : tie.Need-making-requires
 making-requires c κs = search needs
 
 returns : tie.Need-returns
-unfolding Does effectOf
-returns c = λ p inner e.
+unfolding PerformsAs Does effectOf
+returns c = λ p inner child e so.
     let own = rw (c .before .before .before .before .before .wide .ensures .0) at (c .before .before .before .with-name .ensures) ∙ moved-past p _ e in
-    rw (own, c .before .new-accumulator .ensures, c .before .before .operator-of .ensures) at (c .making .ensures)
+    rw (own, c .before .new-accumulator .ensures, c .before .before .operator-of .ensures) at (c .making .ensures child)
 
 pub accumulate-spec : {M : Type 1} → statement M
 accumulate-spec =

@@ -9,7 +9,7 @@ use borrow.Author.Needs.{needs}
 use Rattle.machine.proofs.commands.atom.Statement.{statement}
 use Rattle.machine.proofs.commands.atom.Tie as tie
 
-long : (c : tie.Start) → length (c .args .s .cells) ≡ 16
+long : (c : tie.Start) → length (c .args .e .cells) ≡ 16
 long c = search needs
 
 sub-at : tie.Need-sub-at
@@ -34,7 +34,7 @@ returns : tie.Need-returns
 unfolding Touches FollowsAll
 returns c =
     let s = c .before .before .before .before .before in
-    c .touched .ensures _ (c .before .touch-all .ensures (s .args .s .cells) (untouched (s .args .t5)) (agrees-first (s .args .s .cells) (s .args .t5) (long s)))
+    c .touched .ensures _ (c .before .touch-all .ensures (s .args .e .cells) (untouched (s .args .t4)) (agrees-first (s .args .e .cells) (s .args .t4) (long s)))
 
 pub atom-spec : {M : Type 1} → statement M
 atom-spec =

@@ -9,7 +9,7 @@ use borrow.Author.Needs.{needs}
 use Rattle.machine.proofs.commands.cell.Statement.{statement}
 use Rattle.machine.proofs.commands.cell.Tie as tie
 
-long : (c : tie.Start) → length (c .args .s .cells) ≡ 16
+long : (c : tie.Start) → length (c .args .e .cells) ≡ 16
 long c = search needs
 
 touch-requires : tie.Need-touch-requires
@@ -22,7 +22,7 @@ returns : tie.Need-returns
 unfolding Touches Follows
 returns c =
     let s = c .before .before .before in
-    c .touched .ensures _ (c .before .touch .ensures (s .args .s .cells) (untouched (s .args .a)) (agrees-first (s .args .s .cells) (s .args .a) (long s)))
+    c .touched .ensures _ (c .before .touch .ensures (s .args .e .cells) (untouched (s .args .a)) (agrees-first (s .args .e .cells) (s .args .a) (long s)))
 
 pub cell-spec : {M : Type 1} → statement M
 cell-spec = tie.close (tie.spec touch-requires touched-requires returns)

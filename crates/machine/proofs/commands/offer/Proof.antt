@@ -1,7 +1,8 @@
 -- The activity goes on, and the state is the definition's.
 use mathlib.Core.Path.{_∙_}
 use Rattle.rules.specs.Effects.{effectOf}
-use Rattle.machine.specs.Perform.{Does}
+use Rattle.machine.specs.Change.{Does}
+use Rattle.machine.specs.Perform.{PerformsAs, Performs}
 use Rattle.machine.proofs.Stacks.{moved-past}
 use borrow.Author.Needs.{needs}
 use Rattle.machine.proofs.commands.offer.Statement.{statement}
@@ -17,10 +18,10 @@ offering-requires : tie.Need-offering-requires
 offering-requires c κs = search needs
 
 returns : tie.Need-returns
-unfolding Does effectOf
-returns c = λ p inner e.
+unfolding Performs PerformsAs Does effectOf
+returns c = λ i p inner child e so.
     let own = c .before .before .moved .ensures ∙ moved-past p _ e in
-    rw (own, c .before .number-under .ensures .0) at (c .offering .ensures)
+    rw (own, c .before .number-under .ensures .0) at (c .offering .ensures child)
 
 pub offer-spec : {M : Type 1} → statement M
 offer-spec = tie.close (tie.spec moved-requires number-under-requires offering-requires returns)

@@ -1,6 +1,6 @@
 -- The cells are those that the stores make.
 use mathlib.Core.Path.{_∙_}
-use Rattle.machine.specs.Apply.{StoredAs}
+use Rattle.machine.specs.Change.{Stores}
 use Rattle.machine.specs.Perform.{TouchedBy, Touches}
 use Rattle.machine.proofs.Stacks.{moved-past}
 use borrow.Author.Needs.{needs}
@@ -14,7 +14,7 @@ touching-requires : tie.Need-touching-requires
 touching-requires c κs = search needs
 
 returns : tie.Need-returns
-unfolding Touches TouchedBy StoredAs
+unfolding Touches TouchedBy Stores
 returns c = λ x g p e.
     let own = rw (g .same) at (c .before .with-register .ensures) ∙ moved-past p _ e in
     rw own at (c .touching .ensures (x .stores) (g .stored))

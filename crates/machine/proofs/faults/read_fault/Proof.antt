@@ -3,6 +3,7 @@ use native.Mathlib.Omega.{arith}
 use mathlib.Core.Path.{_≡_, sym, _∙_}
 use Rattle.rules.specs.Faults.{readFault}
 use Rattle.machine.proofs.Facing.{unbound-name, few-name, others, while-held, may-read}
+use Rattle.machine.specs.Change.{lone}
 use borrow.Author.Needs.{needs}
 use Rattle.machine.proofs.faults.read_fault.Statement.{statement}
 use Rattle.machine.proofs.faults.read_fault.Tie as tie
@@ -35,7 +36,7 @@ wide-requires-3 c κs = search needs
 returns-2 : tie.Need-returns-2
 returns-2 c =
     let s = c .before .before .before .before .before .before .before in
-    others (s .args .t1) (s .args .i) (s .args .t3) (c .before .before .before .before .before .before .wide .ensures .0) (c .before .before .before .before .if1 .left) (c .before .before .before .wide2 .ensures .0) (c .before .wide3 .ensures .0) (c .if2 .taken)
+    others (lone (s .args .t1)) (s .args .i) (s .args .t3) (c .before .before .before .before .before .before .wide .ensures .0) (c .before .before .before .before .if1 .left) (c .before .before .before .wide2 .ensures .0) (c .before .wide3 .ensures .0) (c .if2 .taken)
 
 holds-some-requires : tie.Need-holds-some-requires
 holds-some-requires c κs = search needs
@@ -43,12 +44,12 @@ holds-some-requires c κs = search needs
 returns-3 : tie.Need-returns-3
 returns-3 c =
     let s = c .before .before .before .before .before .before .before .before .before in
-    while-held (s .args .t1) (s .args .i) (s .args .t3) (c .before .before .before .before .before .before .before .before .wide .ensures .0) (c .before .before .before .before .before .before .if1 .left) (c .before .before .before .before .before .wide2 .ensures .0) (c .before .before .before .wide3 .ensures .0) (c .before .before .if2 .left) (sym (c .before .holds-some .ensures) ∙ c .if3 .taken)
+    while-held (lone (s .args .t1)) (s .args .i) (s .args .t3) (c .before .before .before .before .before .before .before .before .wide .ensures .0) (c .before .before .before .before .before .before .if1 .left) (c .before .before .before .before .before .wide2 .ensures .0) (c .before .before .before .wide3 .ensures .0) (c .before .before .if2 .left) (sym (c .before .holds-some .ensures) ∙ c .if3 .taken)
 
 returns-4 : tie.Need-returns-4
 returns-4 c =
     let s = c .before .before .before .before .before .before .before .before .before in
-    may-read (s .args .t1) (s .args .i) (s .args .t3) (c .before .before .before .before .before .before .before .before .wide .ensures .0) (c .before .before .before .before .before .before .if1 .left) (c .before .before .before .before .before .wide2 .ensures .0) (c .before .before .before .wide3 .ensures .0) (c .before .before .if2 .left) (sym (c .before .holds-some .ensures) ∙ c .if3 .left)
+    may-read (lone (s .args .t1)) (s .args .i) (s .args .t3) (c .before .before .before .before .before .before .before .before .wide .ensures .0) (c .before .before .before .before .before .before .if1 .left) (c .before .before .before .before .before .wide2 .ensures .0) (c .before .before .before .wide3 .ensures .0) (c .before .before .if2 .left) (sym (c .before .holds-some .ensures) ∙ c .if3 .left)
 
 pub read-fault-spec : {M : Type 1} → statement M
 read-fault-spec =

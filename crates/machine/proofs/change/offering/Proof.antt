@@ -1,8 +1,10 @@
--- The stores are the definition's.
+-- The change is the effect's, field by field.
+use mathlib.Core.Path.{refl}
 use Rattle.rules.specs.Effects.{withStores, applied}
+use Rattle.machine.specs.Change.{changed, Does}
 use borrow.Author.Needs.{needs}
-use Rattle.machine.proofs.apply.offering.Statement.{statement}
-use Rattle.machine.proofs.apply.offering.Tie as tie
+use Rattle.machine.proofs.change.offering.Statement.{statement}
+use Rattle.machine.proofs.change.offering.Tie as tie
 
 mul-old : tie.Need-mul-old
 mul-old c = search needs
@@ -13,17 +15,11 @@ element-copy-out-old c = search needs
 reduce-requires : tie.Need-reduce-requires
 reduce-requires c κs = search needs
 
-mul-own : tie.Need-mul-own
-mul-own c = search needs
-
-element-set-from-own : tie.Need-element-set-from-own
-element-set-from-own c = search needs
-
 with-value-requires : tie.Need-with-value-requires
 with-value-requires c κs = search needs
 
-mul-t11 : tie.Need-mul-t11
-mul-t11 c = search needs
+mul-t10 : tie.Need-mul-t10
+mul-t10 c = search needs
 
 element-set-from-next : tie.Need-element-set-from-next
 element-set-from-next c = search needs
@@ -31,9 +27,12 @@ element-set-from-next c = search needs
 add-next : tie.Need-add-next
 add-next c = search needs
 
+changing-requires : tie.Need-changing-requires
+changing-requires c κs = search needs
+
 returns : tie.Need-returns
-unfolding applied withStores
-returns c = rw (c .with-value .ensures, c .before .reduce .ensures)
+unfolding Does changed applied withStores
+returns c = λ d. rw (c .changing .ensures) (record { state = λ acts i. rw (c .before .with-value .ensures, c .before .before .reduce .ensures); number = refl; spawned = refl })
 
 pub offering-spec : {M : Type 1} → statement M
 offering-spec =
@@ -42,10 +41,9 @@ offering-spec =
     mul-old
     element-copy-out-old
     reduce-requires
-    mul-own
-    element-set-from-own
     with-value-requires
-    mul-t11
+    mul-t10
     element-set-from-next
     add-next
+    changing-requires
     returns)
