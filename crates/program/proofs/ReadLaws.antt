@@ -15,23 +15,10 @@ use Rattle.program.specs.Scanned.{refusalOf}
 use Rattle.program.specs.declared.command.Command.{Command}
 use Rattle.program.specs.declared.reading.Reading.{Reading}
 use Rattle.program.specs.declared.reading.Reading.the-variants.{Whole, Unknown, Cut, Outside}
-use Rattle.program.proofs.RowLaws.{both}
+use Rattle.program.proofs.RowLaws.{both, at-each}
 
 pub apart : {A : Type 0} → _≡_ {A = ℕ} 0 1 → A
 apart z = absurd (let y : ⊥ = omega arith in y)
-
--- A test of each number below a bound.
-abbrev everyBelow : (ℕ → Bool) → ℕ → Bool
-everyBelow test zero = true
-everyBelow test (suc n) = test n && everyBelow test n
-
-at-each : (test : ℕ → Bool) (n : ℕ) → everyBelow test n ≡ true → (i : ℕ) → i < n → test i ≡ true
-at-each test zero all i h = absurd (let y : ⊥ = omega arith in y)
-at-each test (suc n) all i h = by (ℕ-discrete i n) (at-each test n (both (test n) (everyBelow test n) all .1) i)
-  where
-    by : Dec (i ≡ n) → (i < n → test i ≡ true) → test i ≡ true
-    by (yes e) lower = rw e (both (test n) (everyBelow test n) all .0)
-    by (no e) lower = lower (omega arith)
 
 -- The command of a byte has this byte.
 pub opcode-of : (op : ℕ) (s : List ℕ) → op < 17 → opcode (commandOf op s) ≡ op

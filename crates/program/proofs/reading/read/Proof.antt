@@ -16,7 +16,7 @@ use Rattle.program.proofs.command.wide.Reads as wide-reads
 use Rattle.program.proofs.reading.byte_at.Reads as byte-at-reads
 use Rattle.program.proofs.reading.command_of.Reads as command-of-reads
 use Rattle.program.proofs.reading.operands_fit.Reads as operands-fit-reads
-use Rattle.program.proofs.reading.value.Reads as value-reads
+use Rattle.program.proofs.reading.value_of.Reads as value-of-reads
 
 -- The bytes after the first.
 rest-here : (c : tie.After-operands-fit) → c .operands-fit .result ≡ allInside (rowAt (c .before .before .before .before .before .wide .result) .operands) (drop 1 (c .before .before .before .before .before .before .before .before .before .args .code .now))
@@ -58,8 +58,8 @@ byte-at-requires c κs = search needs
 byte-at-requires-2 : tie.Need-byte-at-requires-2
 byte-at-requires-2 c κs = search needs
 
-value-requires : tie.Need-value-requires
-value-requires c κs = search needs
+value-of-requires : tie.Need-value-of-requires
+value-of-requires c κs = search needs
 
 command-of-requires : tie.Need-command-of-requires
 command-of-requires c κs = search needs
@@ -69,7 +69,7 @@ returns-4 c =
     let rest = tail-part (c .before .before .before .before .before .before .before .before .before .before .before .before .before .before .args .code .now) 1 in
     read-whole (c .before .before .before .before .before .before .before .before .before .before .before .before .before .before .args .code .now) (c .before .before .before .before .before .before .before .before .before .before .wide .result) (c .before .before .before .before .before .before .before .before .before .before .before .before .if1 .left) (c .before .before .before .before .before .before .before .before .before .before .wide .ensures .0) (c .before .before .before .before .before .before .before .before .column .result) (c .before .before .before .before .before .before .before .before .before .if2 .left) (c .before .before .before .before .before .before .before .before .column .ensures .0) (c .before .before .before .before .before .before .before .if3 .left)
     (sym (rest-here (c .before .before .before .before .before)) ∙ c .before .before .before .before .if4 .taken)
-    (c .command-of .ensures (drop 1 (c .before .before .before .before .before .before .before .before .before .before .before .before .before .before .args .code .now)) (sym (c .before .before .before .byte-at .ensures ∙ rw rest)) (sym (c .before .before .byte-at2 .ensures ∙ rw rest)) (sym (c .before .value .ensures ∙ ap word rest)))
+    (c .command-of .ensures (drop 1 (c .before .before .before .before .before .before .before .before .before .before .before .before .before .before .args .code .now)) (sym (c .before .before .before .byte-at .ensures ∙ rw rest)) (sym (c .before .before .byte-at2 .ensures ∙ rw rest)) (λ put. sym (c .before .value-of .ensures put ∙ ap word rest)))
 
 returns-5 : tie.Need-returns-5
 returns-5 c = read-outside (c .before .before .before .before .before .before .before .before .before .before .args .code .now) (c .before .before .before .before .before .before .wide .result) (c .before .before .before .before .before .before .before .before .if1 .left) (c .before .before .before .before .before .before .wide .ensures .0) (c .before .before .before .before .column .result) (c .before .before .before .before .before .if2 .left) (c .before .before .before .before .column .ensures .0) (c .before .before .before .if3 .left) (sym (rest-here (c .before)) ∙ c .if4 .left)
@@ -90,7 +90,7 @@ read-spec =
     operands-fit-requires
     byte-at-requires
     byte-at-requires-2
-    value-requires
+    value-of-requires
     command-of-requires
     returns-4
     returns-5)
