@@ -18,10 +18,12 @@ abbrev pub everyBelow : (ℕ → Bool) → ℕ → Bool
 everyBelow test zero = true
 everyBelow test (suc n) = test n && everyBelow test n
 
+-- Both tests pass.
 pub both : (a b : Bool) → a && b ≡ true → (a ≡ true) × (b ≡ true)
 both true b h = (refl, h)
 both false b h = absurd (let z : _≡_ {A = ℕ} 0 1 = cc in let y : ⊥ = omega arith in y)
 
+-- It passes at each of them.
 pub at-each : (test : ℕ → Bool) (n : ℕ) → everyBelow test n ≡ true → (i : ℕ) → i < n → test i ≡ true
 at-each test zero all i h = absurd (let y : ⊥ = omega arith in y)
 at-each test (suc n) all i h = by (ℕ-discrete i n) (at-each test n (both (test n) (everyBelow test n) all .1) i)
@@ -35,6 +37,7 @@ abbrev pub Past : ℕ → ℕ → Type 0
 Past x zero = Unit {0}
 Past x (suc n) = Past x n × (x ≡ n → ⊥)
 
+-- There is no such number below the bound.
 pub none-left : (x n : ℕ) → x < n → Past x n → ⊥
 none-left x zero h past = omega arith
 none-left x (suc n) h past = by (ℕ-discrete x n) (λ less. none-left x n less (past .0))
@@ -49,6 +52,7 @@ none-left x (suc n) h past = by (ℕ-discrete x n) (λ less. none-left x n less 
 abbrev unpacked : ℕ → ℕ → ℕ
 unpacked op k = packed (digits (rowAt op)) / 2 ^ (4 * k) % 16
 
+-- It is the digit that was packed: computed for every row and digit.
 pub digit-at : (op k : ℕ) → op < 17 → k < 11 → unpacked op k ≡ getD (digits (rowAt op)) k 0
 unfolding rowAt rows coded slotIn digits packed
 digit-at op k few less =

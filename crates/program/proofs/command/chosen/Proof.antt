@@ -17,6 +17,7 @@ use Rattle.program.proofs.command.operands.Reads as operands-reads
 use Rattle.program.proofs.rows.slot.Reads as slot-reads
 use Rattle.program.proofs.command.wide.Reads as wide-reads
 
+-- The slot that was looked up is the command's.
 slot-here : (c : tie.After-slot) → c .slot .result ≡ slotIn (c .before .before .args .kind) (coded (rowAt (opcode (c .before .before .args .command))))
 slot-here c = c .slot .ensures ∙ ap (λ (op : ℕ). slotIn (c .before .before .args .kind) (coded (rowAt op))) (c .before .opcode .ensures .0)
 
