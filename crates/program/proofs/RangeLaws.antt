@@ -154,13 +154,6 @@ module _ (s : List ℕ) (op : ℕ) (some : length s ≡ 0 → ⊥) (first : op �
     read-whole h good {c} is =
         rw (is, long) (sym (read-tested s some ∙ rw (← first, lt-leb _ _ known, le-ltb _ _ (read-room h), good)))
 
--- The commands in the order of their bytes.
-pub made : (op x y v : ℕ)
-    → Made op x y v
-    (getD (End ∷ Next ∷ Clock x ∷ Resume x ∷ Drop x ∷ Async x y ∷ Finish x ∷ Repeat x y ∷ Acc x y ∷ Offer x ∷ Read x ∷ Reset x ∷ Put v ∷ Fetch x ∷ Store x ∷ Add x ∷ Atom x ∷ []) op End)
-unfolding commandOf
-made op x y v s first second value = rw (← first, ← second, ← value)
-
 -- The operands of a command byte, tried in turn.
 module _ (op : ℕ) (vs : List ℕ) (bytes : (i : ℕ) → getD vs i 0 < 256) (room : length (rowAt op .operands) ≤ length vs) where
   pub first-out : withinCode (getD (coded (rowAt op)) 1 0) (getD vs 0 0) ≡ false → false ≡ allInside (rowAt op .operands) vs

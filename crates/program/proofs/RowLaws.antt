@@ -1,56 +1,75 @@
--- The code's table of rows is the definitions' one: both are computed and compared once, row by row.
+-- The code's table of rows is the definitions' one: both are computed and compared once, entry by entry.
 use mathlib.Core.Path.{_≡_, refl, sym, ap, _∙_}
 use mathlib.Core.Bool.{Bool, true, false, cond, _&&_, _||_}
-use mathlib.Core.List.{List, [], _∷_, map}
-use Prim.Native.Nat.{ℕ, zero, suc, _<_}
+use mathlib.Core.List.{List, [], _∷_, _++_, map}
+use Prim.Native.Nat.{ℕ, zero, suc, _+_, _*_, _/_, _%_, _^_, _<_, _≤_}
+use native.Mathlib.Decide.{ℕ-discrete}
 use native.Mathlib.Omega.{arith}
-use lib.Dec.{eqb, ltb}
-use lib.ListN.{length, getD, drop, List·getD-map}
-use borrow.Author.Tests.{ne-eqb}
+use lib.Dec.{eqb, ltb, leb}
+use lib.ListN.{length, getD, drop, List·getD-append}
+use borrow.Author.Tests.{ne-eqb, eqb-true, lt-ltb, le-ltb}
 use Rattle.program.specs.Command.{Operand, clockName, accumulatorName, operatorCode, mask, bodyNumber, runCount, commandCount, cellNumber, valueByte, Row, rows, rowAt, rowOf, opcode, operandsOf, operandWhere, has, isBody, isRunCount, isCommandCount}
-use Rattle.program.specs.Inner.Coding.{kindCode, isKind, coded, padded, slotIn}
+use Rattle.program.specs.Inner.Coding.{kindCode, isKind, coded, padded, slotIn, digits, packed}
 use Rattle.program.specs.declared.command.Command.{Command}
 use Rattle.program.specs.declared.command.Command.the-variants.{End, Next, Clock, Resume, Drop, Async, Finish, Repeat, Acc, Offer, Read, Reset, Put, Fetch, Store, Add, Atom}
 use Rattle.program.proofs.Basic.{and-true}
 
--- The rows as the code has them.
-abbrev pub codeRows : List (List ℕ)
-codeRows =
-    (1 ∷ 0 ∷ 0 ∷ 0 ∷ 1 ∷ 0 ∷ 0 ∷ 0 ∷ [])
-    ∷ (1 ∷ 0 ∷ 0 ∷ 0 ∷ 2 ∷ 0 ∷ 0 ∷ 0 ∷ [])
-    ∷ (2 ∷ 1 ∷ 0 ∷ 0 ∷ 1 ∷ 0 ∷ 1 ∷ 0 ∷ [])
-    ∷ (2 ∷ 1 ∷ 0 ∷ 0 ∷ 1 ∷ 0 ∷ 0 ∷ 0 ∷ [])
-    ∷ (2 ∷ 1 ∷ 0 ∷ 0 ∷ 1 ∷ 0 ∷ 0 ∷ 0 ∷ [])
-    ∷ (3 ∷ 5 ∷ 4 ∷ 0 ∷ 1 ∷ 1 ∷ 0 ∷ 0 ∷ [])
-    ∷ (2 ∷ 5 ∷ 0 ∷ 0 ∷ 1 ∷ 0 ∷ 0 ∷ 0 ∷ [])
-    ∷ (3 ∷ 6 ∷ 5 ∷ 0 ∷ 1 ∷ 0 ∷ 0 ∷ 0 ∷ [])
-    ∷ (3 ∷ 2 ∷ 3 ∷ 0 ∷ 1 ∷ 0 ∷ 0 ∷ 1 ∷ [])
-    ∷ (2 ∷ 2 ∷ 0 ∷ 0 ∷ 1 ∷ 0 ∷ 0 ∷ 0 ∷ [])
-    ∷ (2 ∷ 2 ∷ 0 ∷ 0 ∷ 1 ∷ 0 ∷ 0 ∷ 0 ∷ [])
-    ∷ (2 ∷ 2 ∷ 0 ∷ 0 ∷ 1 ∷ 0 ∷ 0 ∷ 0 ∷ [])
-    ∷ (5 ∷ 0 ∷ 0 ∷ 0 ∷ 1 ∷ 0 ∷ 0 ∷ 0 ∷ [])
-    ∷ (2 ∷ 8 ∷ 0 ∷ 0 ∷ 1 ∷ 0 ∷ 0 ∷ 0 ∷ [])
-    ∷ (2 ∷ 8 ∷ 0 ∷ 0 ∷ 1 ∷ 0 ∷ 0 ∷ 0 ∷ [])
-    ∷ (2 ∷ 8 ∷ 0 ∷ 0 ∷ 1 ∷ 0 ∷ 0 ∷ 0 ∷ [])
-    ∷ (2 ∷ 7 ∷ 0 ∷ 0 ∷ 1 ∷ 0 ∷ 0 ∷ 0 ∷ [])
-    ∷ []
+-- A test of each number below a bound.
+abbrev pub everyBelow : (ℕ → Bool) → ℕ → Bool
+everyBelow test zero = true
+everyBelow test (suc n) = test n && everyBelow test n
 
-same-rows : map coded rows ≡ codeRows
-unfolding coded rows
-same-rows = refl
+-- It passes at each of them.
+pub at-each : (test : ℕ → Bool) (n : ℕ) → everyBelow test n ≡ true → (i : ℕ) → i < n → test i ≡ true
+at-each test zero all i h = absurd (let y : ⊥ = omega arith in y)
+at-each test (suc n) all i h = by (ℕ-discrete i n) (at-each test n (and-true (test n) (everyBelow test n) all .1) i)
+  where
+    by : Dec (i ≡ n) → (i < n → test i ≡ true) → test i ≡ true
+    by (yes e) lower = rw e (and-true (test n) (everyBelow test n) all .0)
+    by (no e) lower = lower (omega arith)
 
--- A list at an index that it has, whatever is given for one that it has not.
-pub other-default : {A : Type 0} (l : List A) (i : ℕ) (d e : A) → i < length l → getD l i d ≡ getD l i e
-other-default [] i d e h = absurd (let y : ⊥ = omega arith in y)
-other-default (x ∷ l) zero d e h = refl
-other-default (x ∷ l) (suc i) d e h = other-default l i d e (omega arith)
+-- A number that is none of those below a bound, as the last arm of a `match` knows it.
+abbrev pub Past : ℕ → ℕ → Type 0
+Past x zero = Unit {0}
+Past x (suc n) = Past x n × (x ≡ n → ⊥)
 
-pub row-coded : (op : ℕ) → op < 17 → getD codeRows op [] ≡ coded (rowAt op)
-unfolding rowAt rows
-row-coded op h =
-    other-default codeRows op [] (coded (record { operands = []; work = 0; activities = 0; clocks = 0; accumulators = 0 })) h
-    ∙ ap (λ (l : List (List ℕ)). getD l op (coded (record { operands = []; work = 0; activities = 0; clocks = 0; accumulators = 0 }))) (sym same-rows)
-    ∙ List·getD-map coded rows op (record { operands = []; work = 0; activities = 0; clocks = 0; accumulators = 0 })
+-- There is no such number below the bound.
+pub none-left : (x n : ℕ) → x < n → Past x n → ⊥
+none-left x zero h past = omega arith
+none-left x (suc n) h past = by (ℕ-discrete x n) (λ less. none-left x n less (past .0))
+  where
+    by : Dec (x ≡ n) → (x < n → ⊥) → ⊥
+    by (yes e) lower = past .1 e
+    by (no e) lower = lower (omega arith)
+
+-- THE ROWS AS THE CODE HAS THEM
+
+-- Digit k of a packed row.
+abbrev unpacked : ℕ → ℕ → ℕ
+unpacked op k = packed (digits (rowAt op)) / 2 ^ (4 * k) % 16
+
+-- It is the digit that was packed: computed for every row and digit.
+pub digit-at : (op k : ℕ) → op < 17 → k < 11 → unpacked op k ≡ getD (digits (rowAt op)) k 0
+unfolding rowAt rows coded slotIn digits packed
+digit-at op k few less =
+    eqb-true (unpacked op k) (getD (digits (rowAt op)) k 0)
+    (at-each (λ (j : ℕ). eqb (unpacked op j) (getD (digits (rowAt op)) j 0)) 11
+    (at-each (λ (i : ℕ). everyBelow (λ (j : ℕ). eqb (unpacked i j) (getD (digits (rowAt i)) j 0)) 11) 17 refl op few) k less)
+
+-- The digits begin with the coded row.
+pub column-digit : (r : Row) (k : ℕ) → k < 8 → getD (digits r) k 0 ≡ getD (coded r) k 0
+unfolding digits coded
+column-digit r k less = List·getD-append (coded r) (slotIn 5 (coded r) ∷ slotIn 6 (coded r) ∷ slotIn 7 (coded r) ∷ []) 0 k less
+
+-- And end with where the kinds are.
+pub slot-digit : (r : Row) (kind : ℕ) → 4 < kind → kind < 8 → getD (digits r) (3 + kind) 0 ≡ slotIn kind (coded r)
+unfolding digits coded
+slot-digit r kind low high = by (ℕ-discrete kind 5) (ℕ-discrete kind 6)
+  where
+    by : Dec (kind ≡ 5) → Dec (kind ≡ 6) → getD (digits r) (3 + kind) 0 ≡ slotIn kind (coded r)
+    by (yes e) six = rw e
+    by (no a) (yes e) = rw e
+    by (no a) (no b) = let e : kind ≡ 7 = omega arith in rw e
 
 -- WHAT A ROW'S FIRST THREE KINDS SAY
 
@@ -81,7 +100,7 @@ module _ (kind : ℕ) (some : 0 < kind) where
   plain-none : (os : List Operand) → plain os ≡ true → has (isKind kind) os ≡ false
   plain-none [] h = refl
   plain-none (o ∷ os) h =
-      let k : kindCode o ≡ 0 = borrow.Author.Tests.eqb-true _ _ (and-true (eqb (kindCode o) 0) (plain os) h .0) in
+      let k : kindCode o ≡ 0 = eqb-true _ _ (and-true (eqb (kindCode o) 0) (plain os) h .0) in
       rw (k, none) (plain-none os (and-true (eqb (kindCode o) 0) (plain os) h .1))
 
   -- Operand i of a list of kinds is of the kind.
@@ -172,6 +191,14 @@ module _ (kind : ℕ) (some : 0 < kind) where
       where-three kind some d (rowAt (opcode c) .operands) (operandsOf c) (operands-long c)
       ∙ rw (where-none kind some d (drop 3 (rowAt (opcode c) .operands)) (drop 3 (operandsOf c)) (plain-none kind some (drop 3 (rowAt (opcode c) .operands)) (plain-tail (opcode c))))
       (cond-slot (at kind some (rowAt (opcode c) .operands) 0) (at kind some (rowAt (opcode c) .operands) 1) (at kind some (rowAt (opcode c) .operands) 2) (operandsOf c) d)
+
+  -- What the code takes where its row has the kind at operand n, and where it has it nowhere.
+  module _ (d : ℕ) (c : Command) (i : ℕ) (slot : i ≡ slotIn kind (coded (rowAt (opcode c)))) where
+    pub found-at : (n : ℕ) → i ≡ n → n < 3 → getD (padded (operandsOf c)) n 0 ≡ operandWhere (isKind kind) d (rowOf c .operands) (operandsOf c)
+    found-at n e h = sym (where-kind d c ∙ rw (← slot, e, lt-ltb n 3 h))
+
+    pub found-none : 3 ≤ i → d ≡ operandWhere (isKind kind) d (rowOf c .operands) (operandsOf c)
+    found-none h = sym (where-kind d c ∙ rw (← slot, le-ltb i 3 h))
 
 -- Two tests that agree on each kind are one.
 agree : (f g : Operand → Bool) → f clockName ≡ g clockName → f accumulatorName ≡ g accumulatorName → f operatorCode ≡ g operatorCode → f mask ≡ g mask

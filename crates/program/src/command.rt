@@ -2,9 +2,10 @@
 ghost use mathlib.Core.Path.{_≡_};
 ghost use mathlib.Core.List.{[], _∷_};
 ghost use Prim.Native.Nat.{_+_, _<_, _%_, _/_};
-ghost use Rattle.program.specs.Command.{rowAt, rowOf, opcode, operandsOf, width, names, named, times, held, isEnd, usesCell, operandWhere};
-ghost use Rattle.program.specs.Inner.Coding.{coded, isKind, padded, slotIn};
+ghost use Rattle.program.specs.Command.{rowOf, opcode, operandsOf, width, names, named, times, held, isEnd, usesCell, operandWhere};
+ghost use Rattle.program.specs.Inner.Coding.{isKind, padded};
 use super::rows::column;
+use super::rows::slot;
 
 // A command with its operands as they stand in the table.
 pub enum Command {
@@ -103,31 +104,23 @@ pub fn operands(command: Command) -> [u8; 4]
     }
 }
 
-// Which operand of a command byte is of a kind, from 0; 3 where none is.
-fn slot(op: usize, kind: usize) -> usize
-    requires { ⌜ op < 17 ⌝ }
-    ensures { λ r. ⌜ r ≡ slotIn kind (coded (rowAt op)) ⌝ }
-{
-    if column(op, 1) == kind {
-        return 0;
-    }
-    if column(op, 2) == kind {
-        return 1;
-    }
-    if column(op, 3) == kind {
-        return 2;
-    }
-    3
-}
-
 // The operand of a kind, or the number given where a command has none.
 fn chosen(command: Command, kind: usize, other: usize) -> usize
-    requires { ⌜ (0 < kind) × (other < 256) ⌝ }
+    requires { ⌜ (4 < kind) × (kind < 8) × (other < 256) ⌝ }
     ensures { λ r. ⌜ (r ≡ operandWhere (isKind kind) other (rowOf command .operands) (operandsOf command)) × (r < 256) ⌝ }
 {
     let i = slot(opcode(command), kind);
     let bytes = operands(command);
-    if i < 3 { wide(bytes[i]) } else { other }
+    if i == 0 {
+        return wide(bytes[0]);
+    }
+    if i == 1 {
+        return wide(bytes[1]);
+    }
+    if i == 2 {
+        return wide(bytes[2]);
+    }
+    other
 }
 
 // The bytes of a command, its first one included.

@@ -1,9 +1,10 @@
 // One command from the slice that starts at it.
 ghost use mathlib.Core.Path.{_≡_};
+ghost use mathlib.Core.List.{[]};
 ghost use Prim.Native.Nat.{_<_, _≤_};
 ghost use lib.ListN.{length, getD, drop};
 ghost use Rattle.program.specs.Command.{word, rowAt};
-ghost use Rattle.program.specs.Inner.Coding.{withinCode, Made};
+ghost use Rattle.program.specs.Inner.Coding.{ranges, withinCode, Made};
 ghost use Rattle.program.specs.Reading.{read, allInside};
 use super::command::Command;
 use super::command::wide;
@@ -21,18 +22,8 @@ pub enum Reading {
     Outside,
 }
 
-// The least and the greatest operand of each kind.
-const RANGES: [[u8; 2]; 9] = [
-    [0, 255],
-    [0, 7],
-    [0, 7],
-    [0, 2],
-    [0, 255],
-    [0, 255],
-    [0, 255],
-    [1, 8],
-    [0, 15],
-];
+// The byte of PUT.
+const PUT: usize = 12;
 
 // A byte of a slice, 0 past its end.
 fn byte_at(code: &[u8], i: usize) -> u8
@@ -59,31 +50,65 @@ fn value(code: &[u8]) -> u32
     a + 256 * b + 65536 * c + 16777216 * d
 }
 
-// The command of a byte with operands x and y, or the value v.
+// The value that PUT has; 0 for the other command bytes, which need none.
+fn value_of(op: usize, code: &[u8]) -> u32
+    ensures { λ r. ⌜ (op ≡ 12 → r ≡ word (now (code .entry))) ⌝ }
+{
+    if op == PUT { value(code) } else { 0 }
+}
+
+// The command of a byte with operands x and y, or, of PUT, the value v.
 fn command_of(op: usize, x: u8, y: u8, v: u32) -> Command
     requires { ⌜ op < 17 ⌝ }
     ensures { λ r. ⌜ Made op x y v r ⌝ }
 {
-    let all = [
-        Command::End,
-        Command::Next,
-        Command::Clock(x),
-        Command::Resume(x),
-        Command::Drop(x),
-        Command::Async(x, y),
-        Command::Finish(x),
-        Command::Repeat(x, y),
-        Command::Acc(x, y),
-        Command::Offer(x),
-        Command::Read(x),
-        Command::Reset(x),
-        Command::Put(v),
-        Command::Fetch(x),
-        Command::Store(x),
-        Command::Add(x),
-        Command::Atom(x),
-    ];
-    all[op]
+    match op {
+        0 => Command::End,
+        1 => Command::Next,
+        2 => Command::Clock(x),
+        3 => Command::Resume(x),
+        4 => Command::Drop(x),
+        5 => Command::Async(x, y),
+        6 => Command::Finish(x),
+        7 => Command::Repeat(x, y),
+        8 => Command::Acc(x, y),
+        9 => Command::Offer(x),
+        10 => Command::Read(x),
+        11 => Command::Reset(x),
+        12 => Command::Put(v),
+        13 => Command::Fetch(x),
+        14 => Command::Store(x),
+        15 => Command::Add(x),
+        16 => Command::Atom(x),
+        _ => Command::End,
+    }
+}
+
+// The least operand of a kind.
+fn least(kind: usize) -> u8
+    requires { ⌜ kind < 9 ⌝ }
+    ensures { λ r. ⌜ r ≡ getD (getD ranges kind []) 0 0 ⌝ }
+{
+    if kind == 7 { 1 } else { 0 }
+}
+
+// The greatest operand of a kind.
+fn greatest(kind: usize) -> u8
+    requires { ⌜ kind < 9 ⌝ }
+    ensures { λ r. ⌜ r ≡ getD (getD ranges kind []) 1 0 ⌝ }
+{
+    match kind {
+        0 => 255,
+        1 => 7,
+        2 => 7,
+        3 => 2,
+        4 => 255,
+        5 => 255,
+        6 => 255,
+        7 => 8,
+        8 => 15,
+        _ => 255,
+    }
 }
 
 // Whether an operand is inside the range of its kind.
@@ -91,9 +116,7 @@ fn within(kind: usize, x: u8) -> bool
     requires { ⌜ kind < 9 ⌝ }
     ensures { λ r. ⌜ r ≡ withinCode kind x ⌝ }
 {
-    let low = RANGES[kind][0];
-    let high = RANGES[kind][1];
-    low <= x && x <= high
+    least(kind) <= x && x <= greatest(kind)
 }
 
 // Whether each operand of a command byte is inside its range.
@@ -129,8 +152,9 @@ pub fn read(code: &[u8]) -> Reading
     if operands_fit(op, rest) {
         let x = byte_at(rest, 0);
         let y = byte_at(rest, 1);
+        let v = value_of(op, rest);
         Reading::Whole {
-            command: command_of(op, x, y, value(rest)),
+            command: command_of(op, x, y, v),
             size,
         }
     } else {

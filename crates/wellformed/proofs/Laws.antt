@@ -23,16 +23,19 @@ use Rattle.program.proofs.LocatedBytes.{layout-bodies, read-code, place-inside,
 use Rattle.program.proofs.Marks.{marked}
 use Rattle.program.proofs.RangeLaws.{tail-part}
 use Rattle.rules.specs.declared.state.Frame.{Frame}
+use Rattle.rules.specs.declared.state.Hold.{Hold}
 use Rattle.rules.specs.declared.state.Activity.{Activity}
 use Rattle.rules.specs.declared.state.Status.{Status}
 use Rattle.rules.specs.declared.state.Status.the-variants.{Running, AtBarrier, Ended, Faulted}
 use Rattle.rules.specs.Search.{someBelow, allBelow}
 use Rattle.rules.specs.State.{frame, top, isEnded, isAtBarrier}
+use Rattle.rules.specs.Clocks.{isHeld}
 use Rattle.rules.specs.Tree.{rest, here}
 use Rattle.rules.specs.WellFormed.{isNoFrame, runBy, isPlaced, isBottom, isStacked, frameFits, stackFits, bodyFits, spawnerFits}
 use Rattle.rules.proofs.Tests.{and-true, true-false}
 use Rattle.rules.proofs.Search.{allBelow-at}
 use Rattle.wellformed.specs.Known.{Known}
+use Rattle.wellformed.specs.Entries.{areApart}
 use Rattle.wellformed.proofs.Loops.{Passed}
 
 -- None passes where each fails.
@@ -44,6 +47,16 @@ not-some (suc n) f = by (f n) (not-some n f)
     by : (q : Bool) → not (someBelow n f) ≡ allBelow n (λ i. not (f i)) → not (q || someBelow n f) ≡ not q && allBelow n (λ i. not (f i))
     by true ih = refl
     by false ih = ih
+
+-- A name that is free is apart from every other.
+pub apart-free : (x y : Hold) → isHeld (y .registration) ≡ false → areApart x y ≡ true
+unfolding areApart
+apart-free x y free = by (isHeld (x .registration)) (isHeld (y .registration)) free
+  where
+    by : (p q : Bool) → q ≡ false → not (p && q) || not (eqb (x .clock) (y .clock)) ≡ true
+    by p true e = absurd (true-false true refl e)
+    by true false e = refl
+    by false false e = refl
 
 -- COMMANDS THAT RUN A BODY
 

@@ -1,5 +1,5 @@
 -- A loop that tests every entry below n and leaves at the first that fails, and what an `if` says of a call's answer.
-use Prim.Native.Nat.{ℕ, _+_, _≤_, _<_}
+use Prim.Native.Nat.{ℕ, zero, suc, _+_, _≤_, _<_}
 use native.Mathlib.Numerals.{add-one}
 use native.Mathlib.Omega.{arith}
 use mathlib.Core.Path.{_≡_, refl, sym, _∙_}
@@ -32,6 +32,12 @@ one-fails n f i l e = go (decide (allBelow n f))
     go : (allBelow n f ≡ true) ⊎ (allBelow n f ≡ false) → false ≡ allBelow n f
     go (inl p) = absurd (true-false (f i) (allBelow-at n f p i l) e)
     go (inr p) = sym p
+
+-- Every entry passes where each does.
+pub all-pass : (n : ℕ) (f : ℕ → Bool) → ((i : ℕ) → f i ≡ true) → true ≡ allBelow n f
+unfolding allBelow
+all-pass zero f each = refl
+all-pass (suc n) f each = rw (each n) (all-pass n f each)
 
 -- THE ANSWER OF A CALL
 

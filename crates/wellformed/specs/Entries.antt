@@ -2,15 +2,17 @@
 -- in its activity or state.
 use Prim.Native.Nat.{ℕ}
 use mathlib.Core.Bool.{Bool, cond, _||_, _&&_, not}
+use mathlib.Core.List.{List}
 use lib.Dec.{ltb, leb, eqb}
+use lib.ListN.{getD}
 use Rattle.program.specs.Bodies.{Program}
 use Rattle.rules.specs.declared.state.Hold.{Hold}
 use Rattle.rules.specs.declared.state.Activity.{Activity}
 use Rattle.rules.specs.declared.state.Accumulator.{Accumulator}
 use Rattle.rules.specs.Search.{allBelow}
-use Rattle.rules.specs.State.{bound}
+use Rattle.rules.specs.State.{bound, noAccumulator}
 use Rattle.rules.specs.Clocks.{isHeld}
-use Rattle.rules.specs.WellFormed.{isNoHold, isNoAccumulator, isNoActivity, stackFits, bodyFits, barrierFits, holdFits, namesFit, spawnerFits}
+use Rattle.rules.specs.WellFormed.{isNoHold, isNoAccumulator, stackFits, bodyFits, barrierFits, holdFits, namesFit, spawnerFits}
 use Rattle.wellformed.specs.declared.activity.Made.{Made}
 
 -- A hold: "phase is over its limit", "an unmade thing is named"; a free one is all 0.
@@ -31,8 +33,9 @@ activityIsFit p made i a =
     && (namesFit a && (allBelow 8 (λ n. leb (bound a n) (made .accumulators)) && spawnerFits i a)))))
 
 -- Each made one is as it should be, each other one all 0.
-unfoldable pub activityEntry : Program → Made → ℕ → Activity → Bool
-activityEntry p made i a = cond (ltb i (made .activities)) (activityIsFit p made i a) (isNoActivity a)
-
 unfoldable pub accumulatorEntry : Made → ℕ → Accumulator → Bool
 accumulatorEntry made n x = cond (ltb n (made .accumulators)) (ltb (x .owner) (made .activities)) (isNoAccumulator x)
+
+-- Each of the 16 entries.
+unfoldable pub accumulatorEntries : Made → List Accumulator → Bool
+accumulatorEntries made accs = allBelow 16 (λ n. accumulatorEntry made n (getD accs n noAccumulator))

@@ -72,12 +72,16 @@ fn are_apart(x: Hold, y: Hold) -> bool
     x.clock != y.clock
 }
 
-// No name before name k is for its clock.
+// No name before name k is for its clock, where it has one.
 fn name_fits(a: Activity, k: usize) -> bool
     requires { ⌜ k < 8 ⌝ }
     ensures { λ r. ⌜ r ≡ allBelow k (λ (j : ℕ). areApart (hold a j) (hold a k)) ⌝ }
 {
     let own = a.holds[k];
+    let registration = own.registration;
+    if !is_held(registration) {
+        return true;
+    }
     let mut j: usize = 0;
     while j < k {
         let other = a.holds[j];

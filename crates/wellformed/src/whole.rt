@@ -2,9 +2,9 @@
 ghost use mathlib.Core.Path.{_≡_};
 ghost use Rattle.program.specs.Bodies.{programOf};
 ghost use Rattle.program.specs.Count.{workOf};
-ghost use Rattle.rules.specs.WellFormed.{countsFit, activitiesFit, accumulatorsFit, wellFormed};
+ghost use Rattle.rules.specs.WellFormed.{countsFit, activitiesFit, wellFormed};
 ghost use Rattle.wellformed.specs.Known.{Marked};
-ghost use Rattle.wellformed.specs.Entries.{activityEntry, accumulatorEntry};
+ghost use Rattle.wellformed.specs.Entries.{accumulatorEntry, accumulatorEntries};
 use super::activity::Made;
 use super::activity::activity_fits;
 use super::unused::is_no_activity;
@@ -12,7 +12,6 @@ use program::command::wide;
 use program::scan::Layout;
 use rules::checks::is_no_accumulator;
 use rules::state::Accumulator;
-use rules::state::Activity;
 use rules::state::State;
 
 // The limits of the counts.
@@ -43,26 +42,7 @@ pub fn counts_fit(table: &[u8], work: u64, s: State) -> bool
     s.accumulators <= ACCUMULATORS && wide_steps(s.steps) <= work
 }
 
-// Entry i of the activities: it is as it should be where it was spawned, and all 0 where not.
-fn activity_entry(
-    table: &[u8],
-    layout: Layout,
-    marks: &[u8; 2048],
-    made: Made,
-    i: usize,
-    a: Activity,
-) -> bool
-    requires { ⌜ Marked (now table) layout (now marks) ⌝ }
-    ensures { λ r. ⌜ r ≡ activityEntry (programOf (now (table .entry))) made i a ⌝ }
-{
-    if i < wide(made.activities) {
-        activity_fits(table, layout, marks, made, i, a)
-    } else {
-        is_no_activity(a)
-    }
-}
-
-// Each of the 64 entries of activities.
+// Each of the 64 entries of activities: it is as it should be where it was spawned, and all 0 where not.
 pub fn activities_fit(table: &[u8], layout: Layout, marks: &[u8; 2048], s: State) -> bool
     requires { ⌜ Marked (now table) layout (now marks) ⌝ }
     ensures { λ r. ⌜ r ≡ activitiesFit 65535 (programOf (now (table .entry))) s ⌝ }
@@ -72,13 +52,22 @@ pub fn activities_fit(table: &[u8], layout: Layout, marks: &[u8; 2048], s: State
         clocks: s.clocks,
         accumulators: s.accumulators,
     };
+    let spawned = wide(s.activities);
     let mut i: usize = 0;
     while i < 64 {
-        let a = s.acts[i];
-        if !activity_entry(table, layout, marks, made, i, a) {
-            return false;
-        }
+        let at = i;
         i += 1;
+        if at < spawned {
+            let a = s.acts[at];
+            if !activity_fits(table, layout, marks, made, at, a) {
+                return false;
+            }
+        } else {
+            let a = s.acts[at];
+            if !is_no_activity(a) {
+                return false;
+            }
+        }
     }
     true
 }
@@ -95,17 +84,12 @@ fn accumulator_entry(made: Made, n: usize, x: Accumulator) -> bool
 }
 
 // Each of the 16 entries of accumulators.
-pub fn accumulators_fit(s: State) -> bool
-    ensures { λ r. ⌜ r ≡ accumulatorsFit s ⌝ }
+pub fn accumulators_fit(made: Made, accs: [Accumulator; 16]) -> bool
+    ensures { λ r. ⌜ r ≡ accumulatorEntries made accs ⌝ }
 {
-    let made = Made {
-        activities: s.activities,
-        clocks: s.clocks,
-        accumulators: s.accumulators,
-    };
     let mut n: usize = 0;
     while n < 16 {
-        let x = s.accs[n];
+        let x = accs[n];
         if !accumulator_entry(made, n, x) {
             return false;
         }
@@ -122,5 +106,11 @@ pub fn well_formed(table: &[u8], layout: Layout, marks: &[u8; 2048], work: u64, 
     if !counts_fit(table, work, s) {
         return false;
     }
-    activities_fit(table, layout, marks, s) && accumulators_fit(s)
+    let made = Made {
+        activities: s.activities,
+        clocks: s.clocks,
+        accumulators: s.accumulators,
+    };
+    let accs = s.accs;
+    activities_fit(table, layout, marks, s) && accumulators_fit(made, accs)
 }

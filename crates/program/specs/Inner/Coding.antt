@@ -1,8 +1,8 @@
 -- How the code holds the rows of the commands: eight numbers each, the kinds of operands as numbers too.
-use Prim.Native.Nat.{ℕ, _+_}
+use Prim.Native.Nat.{ℕ, _+_, _*_, _<_, _≤_}
 use mathlib.Core.Path.{_≡_}
-use mathlib.Core.List.{List, [], _∷_, map}
-use mathlib.Core.Bool.{Bool, cond, _&&_}
+use mathlib.Core.List.{List, [], _∷_, _++_, map}
+use mathlib.Core.Bool.{Bool, true, false, cond, _&&_}
 use lib.ListN.{length, getD}
 use lib.Dec.{eqb, leb}
 use Rattle.program.specs.Command.{Operand, clockName, accumulatorName, operatorCode, mask, bodyNumber, runCount, commandCount, cellNumber, valueByte, Row, rowOf, word, commandOf}
@@ -36,13 +36,22 @@ coded r =
     ∷ r .accumulators
     ∷ []
 
--- The first four of a list, 0 for those that it lacks.
-abbrev pub padded : List ℕ → List ℕ
-padded s = getD s 0 0 ∷ getD s 1 0 ∷ getD s 2 0 ∷ getD s 3 0 ∷ []
-
 -- Which of three operands is of a kind, the first counted as 0; 3 where none is.
 unfoldable pub slotIn : ℕ → List ℕ → ℕ
 slotIn kind r = cond (eqb (getD r 1 0) kind) 0 (cond (eqb (getD r 2 0) kind) 1 (cond (eqb (getD r 3 0) kind) 2 3))
+
+-- The digits of a row: what is coded, and which operand is a body, a count of runs and a count of commands.
+unfoldable pub digits : Row → List ℕ
+digits r = coded r ++ (slotIn 5 (coded r) ∷ slotIn 6 (coded r) ∷ slotIn 7 (coded r) ∷ [])
+
+-- The number that hexadecimal digits make, the lowest first.
+unfoldable pub packed : List ℕ → ℕ
+packed [] = 0
+packed (x ∷ s) = x + 16 * packed s
+
+-- The first four of a list, 0 for those that it lacks.
+abbrev pub padded : List ℕ → List ℕ
+padded s = getD s 0 0 ∷ getD s 1 0 ∷ getD s 2 0 ∷ getD s 3 0 ∷ []
 
 -- What a command counts by itself: work 0, activities 1, clocks 2, accumulators 3.
 unfoldable pub weight : ℕ → Command → ℕ
@@ -66,6 +75,6 @@ ranges =
 unfoldable pub withinCode : ℕ → ℕ → Bool
 withinCode kind x = leb (getD (getD ranges kind []) 0 0) x && leb x (getD (getD ranges kind []) 1 0)
 
--- The command of a byte, whatever list its operands x and y, or its value v, stand at the start of.
+-- The command of a byte, whatever list its operands x and y, or, of PUT, its value v, stand at the start of.
 abbrev pub Made : ℕ → ℕ → ℕ → ℕ → Command → Type 0
-Made op x y v r = (s : List ℕ) → getD s 0 0 ≡ x → getD s 1 0 ≡ y → word s ≡ v → r ≡ commandOf op s
+Made op x y v r = (s : List ℕ) → getD s 0 0 ≡ x → getD s 1 0 ≡ y → (op ≡ 12 → word s ≡ v) → r ≡ commandOf op s

@@ -13,7 +13,7 @@ use Rattle.program.proofs.command.names.Tie as tie
 use Rattle.program.proofs.command.names.Reads as reads
 use Rattle.program.proofs.command.names.Lts as lts
 use Rattle.program.proofs.command.opcode.Reads as opcode-reads
-use Rattle.program.proofs.command.slot.Reads as slot-reads
+use Rattle.program.proofs.rows.slot.Reads as slot-reads
 
 returns : tie.Need-returns
 unfolding names rowOf
