@@ -52,32 +52,21 @@ pub under-start : (t order before : List ℕ) (s : State) → Under t order befo
 unfolding runFrom answersFrom
 under-start t order before s = record { within = omega arith; here = refl; filled = refl; kept = refl; sized = refl }
 
-module _ {t : List ℕ} {l : Layout} {work : ℕ} {order before : List ℕ} {first : State} (f : Followable t l work first order (length before)) {s : State} {buffer : List ℕ} {k : ℕ}
-    (u : Under t order before first s buffer k) where
-  module _ (more : k < length order) where
-    -- The state on the way is well-formed, so its step needs no check.
-    pub fit-here : Fit t l s
-    fit-here = record { known = f .known; formed = rw (u .here) (f .formed k more) }
-
-    step-here : (i : ℕ) → step base t s i ≡ advance base (programOf t) s i
-    unfolding step stepWith
-    step-here i = rw (fit base t s (f .accepted) (fit-here .formed))
-
+module _ {t order before : List ℕ} {first s : State} {buffer : List ℕ} {k : ℕ} (u : Under t order before first s buffer k) where
+  -- One step more.
+  module _ (more : k < length order) (room : length order ≤ length before) where
     next : take (k + 1) order ≡ take k order ++ (getD order k 0 ∷ [])
     next = rw (add-one k) (take-suc order k 0 more)
 
-    -- One step more.
-    pub under-step : {r : State} {i v : ℕ} → i ≡ getD order k 0 → r ≡ advance base (programOf t) s i .state → v ≡ answerNumber (advance base (programOf t) s i .answer)
-        → Under t order before first r (set buffer k v) (k + 1)
-    under-step {r} {i} {v} read e answer =
+    pub under-step : {r : Stepped} {i v : ℕ} → r ≡ step base t s i → i ≡ getD order k 0 → v ≡ answerNumber (r .answer) → Under t order before first (r .state) (set buffer k v) (k + 1)
+    under-step {r} {i} {v} e read answer =
         let m = u .sized in
-        let n = f .fits in
-        let q : step base t (runFrom base t first (take k order)) (getD order k 0) ≡ advance base (programOf t) s i = rw (← u .here, read) (step-here (getD order k 0)) in
-        let value : v ≡ answerNumber (step base t (runFrom base t first (take k order)) (getD order k 0) .answer) = answer ∙ ap (λ (x : Stepped). answerNumber (x .answer)) (sym q) in
+        let q : r ≡ step base t (runFrom base t first (take k order)) (getD order k 0) = e ∙ rw (u .here, read) in
+        let value : v ≡ answerNumber (step base t (runFrom base t first (take k order)) (getD order k 0) .answer) = answer ∙ ap (λ (x : Stepped). answerNumber (x .answer)) q in
         let grown : take (k + 1) (set buffer k v) ≡ take k buffer ++ (v ∷ []) = rw (add-one k) (take-suc-set buffer k v (omega arith)) in
         record {
           within = omega arith;
-          here = e ∙ ap (λ (x : Stepped). x .state) (sym q) ∙ sym (run-more t (take k order) first (getD order k 0)) ∙ ap (runFrom base t first) (sym next);
+          here = ap (λ (x : Stepped). x .state) q ∙ sym (run-more t (take k order) first (getD order k 0)) ∙ ap (runFrom base t first) (sym next);
           filled = rw (grown, u .filled, value, next) (sym (answers-more t (take k order) first (getD order k 0)));
           kept =
               drop-set-lt (k + 1) buffer k v (omega arith)
@@ -92,10 +81,25 @@ module _ {t : List ℕ} {l : Layout} {work : ℕ} {order before : List ℕ} {fir
   unfolding answeredFrom
   under-end h =
       let last : k ≡ length order = omega (arith, u .within) in
-      let all : take k order ≡ order = take-all k order h in (
+      let all : take k order ≡ order = take-all k order h in
+      (
         u .here ∙ ap (runFrom base t first) all,
         sym (take-append-drop k buffer) ∙ rw (u .filled, u .kept, all, last),
       )
+
+-- An order that can be followed.
+module _ {t : List ℕ} {l : Layout} {work : ℕ} {order before : List ℕ} {first : State} (f : Followable t l work first order (length before)) {s : State} {buffer : List ℕ} {k : ℕ}
+    (u : Under t order before first s buffer k) (more : k < length order) where
+  -- The state on the way is well-formed, so its step needs no check.
+  pub fit-here : Fit t l s
+  fit-here = record { known = f .known; formed = rw (u .here) (f .formed k more) }
+
+  pub under-advance : {r : State} {i v : ℕ} → i ≡ getD order k 0 → r ≡ advance base (programOf t) s i .state → v ≡ answerNumber (advance base (programOf t) s i .answer)
+      → Under t order before first r (set buffer k v) (k + 1)
+  unfolding step stepWith
+  under-advance {r} {i} {v} read e answer =
+      let q : advance base (programOf t) s i ≡ step base t s i = rw (fit base t s (f .accepted) (fit-here .formed)) in
+      rw e (under-step u more (f .fits) q read answer)
 
 -- WHAT IT PROMISES
 

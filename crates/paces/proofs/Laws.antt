@@ -1,22 +1,23 @@
--- The start by its number, a step as a step of a run, and the answers at the end.
-use Prim.Native.Nat.{ℕ, _+_, _≤_, _<_}
+-- The start by its number, and the answers at the end.
+use Prim.Native.Nat.{ℕ, _≤_, _<_}
+use native.Mathlib.Omega.{arith}
 use mathlib.Core.Path.{_≡_, sym, ap, _∙_}
 use mathlib.Core.List.{List}
 use mathlib.Core.Bool.{true, false}
 use mathlib.Core.Logic.{_⊎_, inl, inr}
-use lib.ListN.{length, getD, set}
+use lib.ListN.{length}
 use lib.Dec.{eqb}
 use borrow.Author.Tests.{eqb-true, ne-eqb, le-leb, lt-leb}
-use Rattle.program.specs.Bodies.{programOf}
 use Rattle.program.specs.Table.{numberOf}
 use Rattle.rules.specs.declared.state.State.{State}
 use Rattle.rules.specs.declared.answer.Stepped.{Stepped}
 use Rattle.rules.specs.State.{answerNumber}
-use Rattle.rules.specs.Steps.{base, startState, startWith, start, stepWith, step, advance}
+use Rattle.rules.specs.Steps.{base, startState, startWith, start}
 use Rattle.rules.proofs.Tests.{decide}
-use Rattle.rules.proofs.StepLaws.{fit}
+use Rattle.rules.proofs.Demand3.{answers-start}
 use Rattle.machine.specs.Ran.{answered}
-use Rattle.machine.proofs.Runs.{Under, under-step, under-end}
+use Rattle.machine.specs.Turn.{answeredFrom}
+use Rattle.machine.proofs.Runs.{Under, under-end}
 use Rattle.paces.specs.Number.{pacesNumber}
 
 -- THE START
@@ -47,12 +48,9 @@ module _ (t order before : List ℕ) where
     unfolding pacesNumber answered
     paces-short h = let m = lt-leb (length order) (length before) h in (rw (z, m), rw (z, m))
 
-    module _ (room : length order ≤ length before) {s : State} {buffer : List ℕ} {k : ℕ} (u : Under t order before s buffer k) where
-      -- A step with every check is a step of the run.
-      pub paces-step : k < length order → {r : Stepped} {i v : ℕ} → r ≡ step base t s i → i ≡ getD order k 0 → v ≡ answerNumber (r .answer) → Under t order before (r .state) (set buffer k v) (k + 1)
-      unfolding step stepWith
-      paces-step more {r} {i} e = under-step t order before z u more room (e ∙ rw (fit base t s z (u .good .fit)))
-
-      pub paces-done : length order ≤ k → (0 ≡ pacesNumber t (length order) (length before)) × (buffer ≡ answered t order before)
-      unfolding pacesNumber answered
-      paces-done h = let m = le-leb (length order) (length before) room in (rw (z, m), rw (z, m) (under-end t order before z u h .1))
+    module _ (room : length order ≤ length before) {first s : State} (e : first ≡ startState) {buffer : List ℕ} {k : ℕ} (u : Under t order before first s buffer k) (h : length order ≤ k) where
+      pub paces-done : (0 ≡ pacesNumber t (length order) (length before)) × (buffer ≡ answered t order before)
+      unfolding pacesNumber answered answeredFrom
+      paces-done =
+          let m = le-leb (length order) (length before) room in
+          (rw (z, m), rw (z, m, answers-start base t (omega arith) z order, sym e) (under-end u h .1))

@@ -17,7 +17,7 @@ use Rattle.machine.specs.declared.change.Shared.{Shared}
 use Rattle.machine.proofs.Facing.{able, rooted, placed, unspawned}
 use Rattle.machine.proofs.Turns.{turned-down}
 use Rattle.machine.proofs.Dues.{wait-asked, wait-unasked, turn-spawned, turn-alone}
-use Rattle.machine.proofs.Runs.{Under, under-start, fit-here, under-step, under-end}
+use Rattle.machine.proofs.Runs.{Under, under-start, fit-here, under-advance, under-end}
 use borrow.Author.Needs.{needs}
 use Rattle.machine.proofs.advance.follow.Statement.{statement}
 use Rattle.machine.proofs.advance.follow.Tie as tie
@@ -162,7 +162,7 @@ loop-again : tie.Need-loop-again Inv-loop μ-loop
 unfolding Turned
 loop-again c =
     let k = c .before .before .before .before .before in
-    under-step (followable k) (k .loop .inv) (c .before .before .before .before .loop-test .taken) (c .before .before .wide .ensures .0)
+    under-advance (followable k) (k .loop .inv) (c .before .before .before .before .loop-test .taken) (c .before .before .wide .ensures .0)
     (⊎-elim
     (λ w.
     let j : tie.Joined2 Inv-loop μ-loop = record { before = record { before = record { before = record { before = c .before; if1 = w .0 }; a = w .1 }; look = w .2 }; if2 = w .3 } in
@@ -190,7 +190,7 @@ returns : tie.Need-returns Inv-loop μ-loop
 returns c =
     let k = c .before .before in
     let s = start k .args in
-    let e = under-end (followable k) (k .loop .inv) (c .before .loop-test .left) in
+    let e = under-end (k .loop .inv) (c .before .loop-test .left) in
     let q = k .before .shared-of .ensures in (
       c .whole2 .ensures ∙ e .0 ∙ ap (λ (x : Shared). runFrom base (s .table .now) (whole (s .s .acts) x) (s .order .now)) q,
       e .1 ∙ ap (λ (x : Shared). answeredFrom (s .table .now) (whole (s .s .acts) x) (s .order .now) (s .answers .now)) q,
