@@ -81,8 +81,7 @@ module _ {t order before : List ℕ} {first s : State} {buffer : List ℕ} {k : 
   unfolding answeredFrom
   under-end h =
       let last : k ≡ length order = omega (arith, u .within) in
-      let all : take k order ≡ order = take-all k order h in
-      (
+      let all : take k order ≡ order = take-all k order h in (
         u .here ∙ ap (runFrom base t first) all,
         sym (take-append-drop k buffer) ∙ rw (u .filled, u .kept, all, last),
       )
