@@ -26,77 +26,17 @@ fn rounds(zeros: &[u8], answers: &mut [u8]) {
 
 // "five activities offering 1 inside a finish, then READ, leave hand 5": each activity in turn, the last first, and one after the other.
 fn offers(answers: &mut [u8]) {
-    let table: [u8; 33] = [
-        3,
-        8,
-        0,
-        0,
-        6,
-        1,
-        0x0A,
-        0,
-        0,
-        5,
-        2,
-        0,
-        5,
-        2,
-        0,
-        5,
-        2,
-        0,
-        5,
-        2,
-        0,
-        5,
-        2,
-        0,
-        0,
-        0x0C,
-        1,
-        0,
-        0,
-        0,
-        9,
-        0,
-        0,
-    ];
+    let table =
+        b"\x03\x08\x00\x00\x06\x01\x0a\x00\x00\x05\x02\x00\x05\x02\x00\x05\x02\x00\x05\x02\x00\x05\x02\x00\x00\x0c\x01\x00\x00\x00\x09\x00\x00";
     let mut order = [0u8; 90];
     upward(&mut order);
-    report(b"5 offers of 1, 0 to 5 in turn", &table, &order, answers);
+    report(b"5 offers of 1, 0 to 5 in turn", table, &order, answers);
     downward(&mut order);
-    report(b"5 offers of 1, 5 to 0 in turn", &table, &order, answers);
+    report(b"5 offers of 1, 5 to 0 in turn", table, &order, answers);
     report(
         b"5 offers of 1, one after the other",
-        &table,
-        &[
-            0,
-            0,
-            0,
-            0,
-            0,
-            0,
-            0,
-            0,
-            1,
-            1,
-            1,
-            2,
-            2,
-            2,
-            3,
-            3,
-            3,
-            4,
-            4,
-            4,
-            5,
-            5,
-            5,
-            0,
-            0,
-            0,
-        ],
+        table,
+        b"\x00\x00\x00\x00\x00\x00\x00\x00\x01\x01\x01\x02\x02\x02\x03\x03\x03\x04\x04\x04\x05\x05\x05\x00\x00\x00",
         answers,
     );
 }
