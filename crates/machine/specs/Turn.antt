@@ -6,7 +6,7 @@ use mathlib.Core.Bool.{Bool, true, false, _||_, _&&_}
 use lib.ListN.{length, take, drop}
 use lib.Dec.{leb, eqb}
 use Rattle.program.specs.Bodies.{Program, programOf}
-use Rattle.program.specs.Command.{opcode}
+use Rattle.program.specs.Command.{opcode, isEnd}
 use Rattle.program.specs.Count.{workOf}
 use Rattle.program.specs.Table.{numberOf}
 use Rattle.program.specs.declared.command.Command.{Command}
@@ -18,7 +18,7 @@ use Rattle.rules.specs.Search.{someBelow}
 use Rattle.rules.specs.State.{answerNumber, act, top, hold, isAtBarrier, isEnded}
 use Rattle.rules.specs.Clocks.{isHeld}
 use Rattle.rules.specs.WellFormed.{wellFormed}
-use Rattle.rules.specs.Tree.{here}
+use Rattle.rules.specs.Tree.{here, nextOffset}
 use Rattle.rules.specs.Faults.{faultFor}
 use Rattle.rules.specs.Waiting.{waitsAt}
 use Rattle.rules.specs.Effects.{envOf}
@@ -52,6 +52,10 @@ pub record Turn (t : List ℕ) (l : Layout) (s : State) (i : ℕ) (a : Activity)
   pub goes : refusal (programOf t) s i ≡ 0
   pub met : f ≡ fault (programOf t) s i
   pub stands : command ≡ at (programOf t) s i .command
+
+-- The place of the command after one that is not END.
+unfoldable pub Next : Program → Activity → Command → ℕ → Type 0
+Next p a command next = isEnd command ≡ false → next ≡ nextOffset p (top a)
 
 -- A step that is not turned down, and what it changes.
 pub record Taking (t : List ℕ) (l : Layout) (e : Shared) (i : ℕ) (a : Activity) (f : ℕ) (command : Command) : Type 0 where

@@ -2,10 +2,14 @@
 ghost use mathlib.Core.Path.{_≡_};
 ghost use Prim.Native.Nat.{_<_};
 ghost use lib.ListN.{length};
+ghost use Rattle.program.specs.Bodies.{programOf};
+ghost use Rattle.rules.specs.State.{top};
 ghost use Rattle.rules.specs.Steps.{base};
 ghost use Rattle.rules.specs.Runs.{runFrom};
+ghost use Rattle.machine.specs.Known.{On};
+ghost use Rattle.machine.specs.Stack.{Standing};
 ghost use Rattle.machine.specs.Change.{IsChild};
-ghost use Rattle.machine.specs.Turn.{Taking, Taken, Due, Turned, Followable, answeredFrom};
+ghost use Rattle.machine.specs.Turn.{Next, Taking, Taken, Due, Turned, Followable, answeredFrom};
 use super::change::Change;
 use super::change::Shared;
 use super::change::shared_of;
@@ -24,8 +28,22 @@ use program::command::is_end;
 use program::command::operands;
 use program::command::wide;
 use program::scan::Layout;
+use program::table::Table;
 use rules::state::Activity;
 use rules::state::State;
+
+// The place of the command after the one that an activity stands on; after END there is none.
+fn next_after(table: &[u8], a: Activity, command: Command) -> u16
+    requires { ⌜ Standing a × On (now table) (top a) command ⌝ }
+    ensures { λ r. ⌜ Next (programOf (now (table .entry))) a command r ⌝ }
+{
+    if is_end(command) {
+        return 0;
+    }
+    let at = wide(a.depth) - 1;
+    let f = a.frames[at];
+    next_offset(table, f, command)
+}
 
 // What a step that is not turned down changes.
 fn taken(
@@ -43,12 +61,7 @@ fn taken(
     if fault != 0 {
         return fail(e, a, fault);
     }
-    if is_end(command) {
-        return perform(table, layout, e, i, a, command, 0);
-    }
-    let at = wide(a.depth) - 1;
-    let f = a.frames[at];
-    let next = next_offset(table, f, command);
+    let next = next_after(table, a, command);
     perform(table, layout, e, i, a, command, next)
 }
 
@@ -90,18 +103,13 @@ fn child_of(i: usize, a: Activity, command: Command) -> Activity
 }
 
 // A turn for each byte of the order, from a well-formed state. The number of each answer goes into the buffer.
-pub fn follow(
-    table: &[u8],
-    layout: Layout,
-    work: u64,
-    s: State,
-    order: &[u8],
-    answers: &mut [u8],
-) -> State
-    requires { ⌜ Followable (now table) layout work s (now order) (length (now answers)) ⌝ }
+pub fn follow(table: &[u8], known: Table, s: State, order: &[u8], answers: &mut [u8]) -> State
+    requires { ⌜ Followable (now table) (known .layout) (known .work) s (now order) (length (now answers)) ⌝ }
     ensures { λ r. ⌜ r ≡ runFrom base (now (table .entry)) s (now (order .entry)) ⌝ }
     ensures { λ _. ⌜ now (answers .exit) ≡ answeredFrom (now (table .entry)) s (now (order .entry)) (now (answers .entry)) ⌝ }
 {
+    let layout = known.layout;
+    let work = known.work;
     let mut acts = s.acts;
     let mut shared = shared_of(s);
     let mut k: usize = 0;

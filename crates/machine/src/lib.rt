@@ -80,10 +80,9 @@ pub fn step(table: &[u8], s: State, activity: usize) -> Stepped
         };
     }
     let known = checked.table;
-    let layout = known.layout;
     let order = [activity as u8];
     let mut answers = [0u8];
-    let state = follow(table, layout, known.work, s, &order, &mut answers);
+    let state = follow(table, known, s, &order, &mut answers);
     let own = state.acts[activity];
     let status = own.status;
     Stepped {
@@ -139,9 +138,7 @@ pub fn run(table: &[u8], order: &[u8], answers: &mut [u8]) -> Ran
             state: zero_state(),
         };
     }
-    let layout = found.layout;
-    let work = found.work;
-    let state = follow(table, layout, work, start_state(), order, answers);
+    let state = follow(table, found, start_state(), order, answers);
     Ran {
         completion: Completion::Done,
         state,

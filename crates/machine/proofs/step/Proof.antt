@@ -60,7 +60,7 @@ slice-aggregate-follow-2 c = search needs
 
 follow-requires : tie.Need-follow-requires
 follow-requires c κs =
-    let k = c .before .before .before .before .before in
+    let k = c .before .before .before .before in
     let s = start k .args in
     let e = k .before .check .ensures .1 in
     one (fit k) (accepted k) (s .activity) (work-read (s .table .now) e (none k)) (work-small (s .table .now) e (none k))
@@ -79,7 +79,7 @@ answer-of-requires c κs = search needs
 
 returns-3 : tie.Need-returns-3
 returns-3 c =
-    let k = c .before .before .before .before .before .before .before .before .before in
+    let k = c .before .before .before .before .before .before .before .before in
     let s = start k .args in
     let f = c .before .before .before .follow .ensures in
     let q = sym (is-step k refl) in

@@ -23,22 +23,22 @@ use Rattle.machine.proofs.advance.follow.Statement.{statement}
 use Rattle.machine.proofs.advance.follow.Tie as tie
 
 abbrev Inv-loop : tie.InvT-loop
-Inv-loop table layout work order answers₀ acts₀ shared₀ k₀ answers acts shared k = Under table order answers₀ (whole acts₀ shared₀) (whole acts shared) answers k
+Inv-loop table order answers₀ layout work acts₀ shared₀ k₀ answers acts shared k = Under table order answers₀ (whole acts₀ shared₀) (whole acts shared) answers k
 
 abbrev μ-loop : tie.MeasureT-loop
-μ-loop table layout work order answers₀ acts₀ shared₀ k₀ answers acts shared k = length order - k
+μ-loop table order answers₀ layout work acts₀ shared₀ k₀ answers acts shared k = length order - k
 
 -- WHERE THE LOOP STANDS
 
 abbrev start : tie.At-loop Inv-loop μ-loop → tie.Start Inv-loop μ-loop
-start c = c .before .before .before .before .before .before
+start c = c .before .before .before .before .before .before .before
 
 followable : (c : tie.At-loop Inv-loop μ-loop)
-    → Followable (start c .args .table .now) (start c .args .layout) (start c .args .work) (whole (start c .args .s .acts) (c .before .shared-of .result)) (start c .args .order .now) (length (start c .args .answers .now))
+    → Followable (start c .args .table .now) (start c .args .known .layout) (start c .args .known .work) (whole (start c .args .s .acts) (c .before .shared-of .result)) (start c .args .order .now) (length (start c .args .answers .now))
 followable c =
     let s = start c .args in
     subst
-    (λ (e : Shared). Followable (s .table .now) (s .layout) (s .work) (whole (s .s .acts) e) (s .order .now) (length (s .answers .now)))
+    (λ (e : Shared). Followable (s .table .now) (s .known .layout) (s .known .work) (whole (s .s .acts) e) (s .order .now) (length (s .answers .now)))
     (sym (c .before .shared-of .ensures))
     (start c .pre)
 
@@ -46,7 +46,7 @@ followable c =
 abbrev at : tie.Then1 Inv-loop μ-loop → tie.At-loop Inv-loop μ-loop
 at c = c .before .before .before .before .before
 
-fitted : (c : tie.Then1 Inv-loop μ-loop) → Fit (start (at c) .args .table .now) (start (at c) .args .layout) (whole (at c .loop .acts) (at c .loop .shared))
+fitted : (c : tie.Then1 Inv-loop μ-loop) → Fit (start (at c) .args .table .now) (start (at c) .args .known .layout) (whole (at c .loop .acts) (at c .loop .shared))
 fitted c = fit-here (followable (at c)) (at c .loop .inv) (c .before .before .before .before .loop-test .taken)
 
 made : (c : tie.Then1 Inv-loop μ-loop) → (c .before .before .wide .result < at c .loop .shared .activities) × (c .before .before .wide .result < 64)
@@ -58,7 +58,7 @@ made c =
 
 -- It was looked at, and asked whether it waits.
 due : (c : tie.Joined2 Inv-loop μ-loop)
-    → DueAt (start (at (c .before .before .before)) .args .table .now) (start (at (c .before .before .before)) .args .layout) (start (at (c .before .before .before)) .args .work)
+    → DueAt (start (at (c .before .before .before)) .args .table .now) (start (at (c .before .before .before)) .args .known .layout) (start (at (c .before .before .before)) .args .known .work)
     (at (c .before .before .before) .loop .shared) (c .before .before .before .before .before .wide .result)
     (act (whole (at (c .before .before .before) .loop .acts) (at (c .before .before .before) .loop .shared)) (c .before .before .before .before .before .wide .result)) (c .before .look .result) (c .if2 .waits)
     (at (c .before .before .before) .loop .acts)
