@@ -22,7 +22,7 @@ use Rattle.rules.specs.Steps.{base, startState, start, step}
 use Rattle.rules.specs.Runs.{run, answers, answersFrom}
 use Rattle.rules.proofs.StepLaws.{refusal-number}
 use Rattle.rules.proofs.Applied.{steps-applied}
-use Rattle.rules.proofs.Reached.{doing, failed}
+use Rattle.rules.proofs.Turn.{doing, failed}
 use Rattle.rules.proofs.Calls.{start-taken}
 use Rattle.rules.proofs.Demand3.{Good, Call, refused, performed, faulted, call, good-start, good-step, good-at, answers-start}
 use Rattle.machine.specs.Ran.{Runs, ranOf, answered}
