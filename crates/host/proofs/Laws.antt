@@ -15,7 +15,7 @@ use Rattle.rules.specs.State.{answerNumber, zeroState}
 use Rattle.rules.specs.Steps.{base, start, step, ready, registrations, registrationsNumber}
 use Rattle.rules.specs.Runs.{isAccepted}
 use Rattle.rules.proofs.Tests.{and-true, not-true, not-false}
-use Rattle.machine.specs.Ran.{Runs, ranOf, answered}
+use Rattle.machine.specs.Ran.{Runs}
 use Rattle.encoding.specs.declared.Decoded.{Decoded}
 use Rattle.encoding.specs.Bytes.{encodeEach}
 use Rattle.encoding.specs.Encode.{encodeState}

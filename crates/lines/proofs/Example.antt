@@ -2,7 +2,7 @@
 use Prim.Native.Nat.{ℕ}
 use mathlib.Core.List.{List, [], _∷_, _++_}
 use mathlib.Core.Path.{_≡_, refl}
-use Rattle.lines.specs.Text.{digitsOf, decimalOf, headerOf, lineOf, totalOf}
+use Rattle.lines.specs.Text.{digitsOf, decimalOf, lineOf, totalOf}
 use Rattle.lines.specs.Walk.{stepsOf, linesFrom, walkText}
 
 -- Its order and answers.

@@ -1,6 +1,5 @@
 -- Who is asked whether it waits: END of a FINISH body, who is at a meeting, READ and RESET. No other waits.
 use Prim.Native.Nat.{ℕ}
-use native.Mathlib.Omega.{arith}
 use mathlib.Core.Path.{_≡_, refl, sym, _∙_}
 use mathlib.Core.Bool.{Bool, true, false}
 use Rattle.program.specs.Command.{opcode}

@@ -1,5 +1,5 @@
 -- Number 17, tested by a command's row and by the holds of who is at a meeting, is number 17 of the effect.
-use Prim.Native.Nat.{ℕ, zero, suc, _+_, _≤_, _<_}
+use Prim.Native.Nat.{ℕ, _+_, _≤_, _<_}
 use native.Mathlib.Omega.{arith}
 use mathlib.Core.Path.{_≡_, refl, sym, ap, _∙_}
 use mathlib.Core.List.{List, map}
@@ -7,7 +7,7 @@ use mathlib.Core.Bool.{Bool, true, false, cond, _||_, _&&_}
 use mathlib.Core.Logic.{_⊎_, inl, inr}
 use lib.ListN.{getD, set, replicate, getD-replicate}
 use lib.Dec.{ltb, leb, eqb}
-use borrow.Author.Tests.{ltb-true, ltb-false, lt-ltb, le-ltb, le-leb, lt-leb, leb-true, eqb-true, eq-eqb, ne-eqb}
+use borrow.Author.Tests.{ltb-true, lt-ltb, le-ltb, eqb-true, eq-eqb, ne-eqb}
 use Rattle.program.specs.Command.{opcode}
 use Rattle.program.specs.Bodies.{Program}
 use Rattle.program.specs.Count.{workOf}
@@ -23,8 +23,8 @@ use Rattle.rules.specs.State.{faultOf, act, top, hold, noHold, noHolds, isAtBar
 use Rattle.rules.specs.Clocks.{isHeld, holds, quiesce, pass}
 use Rattle.rules.specs.Tree.{here}
 use Rattle.rules.specs.Faults.{Env}
-use Rattle.rules.specs.Effects.{Spawned, nobody, one, Write, keep, make, offer, reset, Effect, past, again, popped, pushed, stopped, endOf, nextOf, repeatOf, touch, touchAll, effectOf, failing, envOf}
-use Rattle.rules.specs.Steps.{base, at, fault, effect, refusal, spawns, makes, exceeds}
+use Rattle.rules.specs.Effects.{one, keep, make, Effect, past, again, popped, pushed, stopped, endOf, nextOf, effectOf, failing, envOf}
+use Rattle.rules.specs.Steps.{base, at, fault, effect, spawns, makes, exceeds}
 use Rattle.rules.proofs.Tests.{true-false, decide}
 use Rattle.rules.proofs.Search.{someBelow-all}
 use Rattle.rules.proofs.Lists.{Stored, new, old, stored}

@@ -1,16 +1,16 @@
 -- A command that an activity stands on: its operands are in range; who waits there; and what a well-formed state gives of its activities.
-use Prim.Native.Nat.{ℕ, zero, suc, _+_, _-_, _≤_, _<_}
+use Prim.Native.Nat.{ℕ, zero, suc, _-_, _≤_, _<_}
 use native.Mathlib.Omega.{arith}
 use mathlib.Core.Path.{_≡_, refl, sym, ap, _∙_, subst}
 use mathlib.Core.List.{List}
 use mathlib.Core.Bool.{Bool, true, false, cond, _&&_}
 use lib.ListN.{getD}
-use lib.Dec.{ltb, leb, eqb}
+use lib.Dec.{ltb, eqb}
 use borrow.Author.Tests.{ltb-true, lt-ltb, le-ltb, eq-eqb, ne-eqb}
 use Rattle.program.specs.Bodies.{Program, programOf}
 use Rattle.program.specs.declared.command.Command.{Command}
 use Rattle.program.specs.declared.scan.Layout.{Layout}
-use Rattle.program.proofs.Shape.{Sound, Ranged}
+use Rattle.program.proofs.Shape.{Ranged}
 use Rattle.rules.specs.declared.state.Activity.{Activity}
 use Rattle.rules.specs.declared.state.State.{State}
 use Rattle.rules.specs.Search.{someBelow}
@@ -25,7 +25,6 @@ use Rattle.rules.proofs.Tests.{and-true, true-false}
 use Rattle.rules.proofs.Search.{someBelow-all}
 use Rattle.rules.proofs.WellFormedStack.{stack-back}
 use Rattle.rules.proofs.WellFormedFacts.{ActivityFacts, Facts, facts}
-use Rattle.machine.specs.Known.{Known}
 use Rattle.machine.specs.Stack.{Stacked}
 use Rattle.machine.specs.Facing.{Able, Facing, Rooted, Placed}
 use Rattle.machine.specs.Turn.{Fit}

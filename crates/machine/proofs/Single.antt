@@ -26,7 +26,6 @@ use Rattle.rules.proofs.Tests.{decide}
 use Rattle.rules.proofs.StepLaws.{refusal-number}
 use Rattle.machine.specs.Ran.{answerBy}
 use Rattle.machine.specs.Turn.{Fit, Followable, answeredFrom}
-use Rattle.machine.proofs.Facing.{rooted, unspawned}
 use Rattle.machine.proofs.Turns.{turned-down, overflows, takes}
 
 -- THE ANSWER

@@ -1,16 +1,15 @@
 -- The step of activity i: numbers 14 to 17, or the state after its effect, answered with the activity's status there.
-use Prim.Native.Nat.{ℕ, _+_, _-_, _≤_, _<_}
+use Prim.Native.Nat.{ℕ, _-_, _≤_, _<_}
 use native.Mathlib.Omega.{arith}
-use mathlib.Core.Path.{_≡_, refl, sym, ap, _∙_}
+use mathlib.Core.Path.{_≡_, sym, ap, _∙_}
 use mathlib.Core.List.{List}
-use mathlib.Core.Bool.{Bool, true, false, cond}
-use lib.ListN.{length, getD, set, length-set}
+use mathlib.Core.Bool.{true, false}
+use lib.ListN.{length, getD, set}
 use lib.Seq.{getD-set-same, getD-set-other}
-use lib.Dec.{ltb, eqb}
+use lib.Dec.{eqb}
 use borrow.Author.Tests.{ne-eqb}
 use Rattle.program.specs.Command.{isEnd}
 use Rattle.program.specs.Bodies.{Program, programOf}
-use Rattle.program.specs.Count.{workOf}
 use Rattle.program.specs.declared.command.Command.{Command}
 use Rattle.program.specs.declared.scan.Layout.{Layout}
 use Rattle.rules.specs.declared.state.Activity.{Activity}
@@ -22,7 +21,7 @@ use Rattle.rules.specs.Tree.{here, nextOffset}
 use Rattle.rules.specs.Effects.{Spawned, nobody, one, Effect, withSpawned, effectOf, failing, envOf, applied}
 use Rattle.rules.specs.Steps.{base, at, fault, effect, refusal, exceeds, stepped, advance}
 use Rattle.rules.proofs.WellFormedApply.{turn, room}
-use Rattle.rules.proofs.WellFormedFacts.{Facts, facts}
+use Rattle.rules.proofs.WellFormedFacts.{facts}
 use Rattle.machine.specs.Stack.{Stacked}
 use Rattle.machine.specs.Change.{whole, lone, Alters, Does, IsChild}
 use Rattle.machine.specs.Perform.{Performing, Performed}
@@ -60,10 +59,6 @@ module _ (p : Program) (s : State) (i : ℕ) where
   takes {r} n m z x e = rw (e, own-after (effect p s i) n (turn p s i z .spawned) m, z, x)
 
 -- THE EFFECT
-
--- An activity that is not turned down has an entry.
-pub spawned-here : {t : List ℕ} {l : Layout} {s : State} {i : ℕ} → Fit t l s → refusal (programOf t) s i ≡ 0 → (i < s .activities) × (s .activities ≤ 64)
-spawned-here {t} {l} {s} {i} fit z = (turn (programOf t) s i z .spawned, facts 65535 (programOf t) s (fit .formed) .acts64)
 
 module _ {t : List ℕ} {l : Layout} {s : State} {i : ℕ} {a : Activity} {f : ℕ} {command : Command} (h : Turn t l s i a f command) where
   -- The activity was spawned.

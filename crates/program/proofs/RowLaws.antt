@@ -1,11 +1,11 @@
 -- The code's table of rows is the definitions' one: both are computed and compared once, entry by entry.
 use mathlib.Core.Path.{_≡_, refl, sym, ap, _∙_}
 use mathlib.Core.Bool.{Bool, true, false, cond, _&&_, _||_}
-use mathlib.Core.List.{List, [], _∷_, _++_, map}
+use mathlib.Core.List.{List, [], _∷_, map}
 use Prim.Native.Nat.{ℕ, zero, suc, _+_, _*_, _/_, _%_, _^_, _<_, _≤_}
 use native.Mathlib.Decide.{ℕ-discrete}
 use native.Mathlib.Omega.{arith}
-use lib.Dec.{eqb, ltb, leb}
+use lib.Dec.{eqb, ltb}
 use lib.ListN.{length, getD, drop, List·getD-append}
 use borrow.Author.Tests.{ne-eqb, eqb-true, lt-ltb, le-ltb}
 use Rattle.program.specs.Command.{Operand, clockName, accumulatorName, operatorCode, mask, bodyNumber, runCount, commandCount, cellNumber, valueByte, Row, rows, rowAt, rowOf, opcode, operandsOf, operandWhere, has, isBody, isRunCount, isCommandCount}

@@ -1,5 +1,4 @@
 -- The table's number decides.
-use mathlib.Core.Path.{_≡_, sym, _∙_}
 use Rattle.machine.proofs.Calls.{number-read, accepted-read, start-refused, start-accepted}
 use borrow.Author.Needs.{needs}
 use Rattle.machine.proofs.start.Statement.{statement}

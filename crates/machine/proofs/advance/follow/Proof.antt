@@ -1,8 +1,7 @@
 -- The invariant: the activities and what they share are the state that the order has led to, and the answers so far stand in the buffer.
-use Prim.Native.Nat.{_-_, _<_, _≤_}
+use Prim.Native.Nat.{_-_, _<_}
 use native.Mathlib.Omega.{arith}
 use mathlib.Core.Path.{_≡_, refl, sym, ap, _∙_, subst}
-use mathlib.Core.Bool.{true, false}
 use mathlib.Core.Logic.{⊎-elim}
 use lib.ListN.{length}
 use Rattle.program.specs.Bodies.{programOf}
@@ -18,7 +17,6 @@ use Rattle.machine.proofs.Facing.{able, rooted, placed, unspawned}
 use Rattle.machine.proofs.Turns.{turned-down}
 use Rattle.machine.proofs.Dues.{wait-asked, wait-unasked, turn-spawned, turn-alone}
 use Rattle.machine.proofs.Runs.{Under, under-start, fit-here, under-advance, under-end}
-use borrow.Author.Needs.{needs}
 use Rattle.machine.proofs.advance.follow.Statement.{statement}
 use Rattle.machine.proofs.advance.follow.Tie as tie
 

@@ -1,7 +1,7 @@
 -- The frame at the top, read at its index.
 use Prim.Native.Nat.{ℕ, _-_}
 use native.Mathlib.Omega.{arith}
-use mathlib.Core.Path.{_≡_, sym, ap, _∙_, subst}
+use mathlib.Core.Path.{sym, ap, _∙_, subst}
 use Rattle.program.specs.Bodies.{programOf}
 use Rattle.rules.specs.State.{frame}
 use Rattle.rules.specs.Tree.{nextOffset}

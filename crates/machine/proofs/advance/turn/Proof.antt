@@ -1,10 +1,7 @@
 -- Numbers 15 to 17, or the effect of the command that was met.
 use native.Mathlib.Omega.{arith}
-use mathlib.Core.Path.{_≡_, refl, sym, _∙_}
-use mathlib.Core.Bool.{false}
-use Rattle.program.specs.Bodies.{programOf}
-use Rattle.rules.specs.Steps.{base, effect, exceeds}
-use Rattle.machine.specs.Change.{whole}
+use mathlib.Core.Path.{refl, sym, _∙_}
+use Rattle.rules.specs.Steps.{effect, exceeds}
 use Rattle.machine.specs.Turn.{Taken, Turned}
 use Rattle.machine.proofs.Turns.{turned-down, overflows}
 use Rattle.machine.proofs.Dues.{ended-number, wait-number, goes-here, turning, over-here, stays, goes-on}

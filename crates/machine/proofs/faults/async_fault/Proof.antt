@@ -1,5 +1,5 @@
 -- Each way is the definition's at the tests that led to it.
-use mathlib.Core.Path.{_≡_, sym, _∙_}
+use mathlib.Core.Path.{sym, _∙_}
 use Rattle.rules.specs.Faults.{asyncFault}
 use borrow.Author.Needs.{needs}
 use Rattle.machine.proofs.faults.async_fault.Statement.{statement}

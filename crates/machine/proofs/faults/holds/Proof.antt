@@ -1,5 +1,5 @@
 -- The registration under the name.
-use mathlib.Core.Path.{_≡_, _∙_}
+use mathlib.Core.Path.{_∙_}
 use borrow.Author.Needs.{needs}
 use Rattle.machine.proofs.faults.holds.Statement.{statement}
 use Rattle.machine.proofs.faults.holds.Tie as tie

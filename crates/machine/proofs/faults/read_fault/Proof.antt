@@ -1,6 +1,6 @@
 -- Each way is the definition's at the tests that led to it.
 use native.Mathlib.Omega.{arith}
-use mathlib.Core.Path.{_≡_, sym, _∙_}
+use mathlib.Core.Path.{sym, _∙_}
 use Rattle.rules.specs.Faults.{readFault}
 use Rattle.machine.proofs.Facing.{unbound-name, few-name, others, while-held, may-read}
 use Rattle.machine.specs.Change.{lone}

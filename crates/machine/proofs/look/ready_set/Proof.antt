@@ -14,7 +14,6 @@ use Rattle.machine.specs.declared.change.Shared.{Shared}
 use Rattle.machine.proofs.Dues.{refusal-here, wait-asked, wait-unasked}
 use Rattle.machine.proofs.Facing.{able, rooted, placed}
 use Rattle.machine.proofs.Readies.{bit-set, bit-left, none-after}
-use borrow.Author.Needs.{needs}
 use Rattle.machine.proofs.look.ready_set.Statement.{statement}
 use Rattle.machine.proofs.look.ready_set.Tie as tie
 

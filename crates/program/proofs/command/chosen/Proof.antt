@@ -1,10 +1,10 @@
 -- The operand stands where the row has its kind.
-use mathlib.Core.Path.{_≡_, refl, sym, ap, _∙_}
-use Prim.Native.Nat.{ℕ, _<_, _≤_}
+use mathlib.Core.Path.{_≡_, ap, _∙_}
+use Prim.Native.Nat.{ℕ, _≤_}
 use native.Mathlib.Omega.{arith}
 use mathlib.Core.List.{List}
 use lib.ListN.{getD}
-use Rattle.program.specs.Command.{rowAt, opcode, operandsOf}
+use Rattle.program.specs.Command.{rowAt, opcode}
 use Rattle.program.specs.Inner.Coding.{coded, slotIn}
 use Rattle.program.proofs.RowLaws.{found-at, found-none}
 use borrow.Author.Needs.{needs}

@@ -1,5 +1,4 @@
 -- Each arm is the command of its byte.
-use mathlib.Core.Path.{_≡_, refl, sym, ap, _∙_}
 use Rattle.program.specs.Command.{commandOf}
 use Rattle.program.proofs.RowLaws.{none-left}
 use Rattle.program.proofs.reading.command_of.Statement.{statement}

@@ -1,5 +1,4 @@
 -- Each arm is the end of its kind's range.
-use mathlib.Core.Path.{_≡_, refl, sym, ap, _∙_}
 use Rattle.program.specs.Inner.Coding.{ranges}
 use Rattle.program.proofs.RowLaws.{none-left}
 use Rattle.program.proofs.reading.greatest.Statement.{statement}

@@ -1,5 +1,5 @@
 -- Only a count of commands has a least number above 0.
-use mathlib.Core.Path.{_≡_, refl, sym, ap, _∙_}
+use mathlib.Core.Path.{refl, sym}
 use mathlib.Core.Bool.{_||_}
 use mathlib.Core.List.{[]}
 use Prim.Native.Nat.{ℕ}

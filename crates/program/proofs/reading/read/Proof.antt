@@ -1,9 +1,7 @@
 -- Each answer is the definition's at the tests that led to it.
-use mathlib.Core.Path.{_≡_, refl, sym, ap, _∙_}
-use native.Mathlib.Omega.{arith}
+use mathlib.Core.Path.{_≡_, sym, ap, _∙_}
 use lib.ListN.{drop}
 use Rattle.program.specs.Command.{rowAt, word}
-use Prim.Native.Nat.{_+_, _*_}
 use Rattle.program.specs.Reading.{allInside}
 use Rattle.program.proofs.RangeLaws.{tail-part, read-empty, read-unknown, read-cut, read-room, read-outside, read-whole}
 use borrow.Author.Needs.{needs}

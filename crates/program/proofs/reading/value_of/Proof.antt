@@ -1,5 +1,4 @@
 -- PUT's value is that of its bytes.
-use native.Mathlib.Omega.{arith}
 use borrow.Author.Needs.{needs}
 use Rattle.program.proofs.reading.value_of.Statement.{statement}
 use Rattle.program.proofs.reading.value_of.Tie as tie

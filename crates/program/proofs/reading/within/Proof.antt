@@ -1,5 +1,4 @@
 -- The two tests are those of the definition.
-use mathlib.Core.Path.{_≡_, refl, sym, ap, _∙_}
 use borrow.Author.Tests.{le-leb, lt-leb}
 use Rattle.program.specs.Inner.Coding.{withinCode}
 use borrow.Author.Needs.{needs}

@@ -1,5 +1,5 @@
 -- The first digits are the coded row.
-use mathlib.Core.Path.{_≡_, refl, sym, ap, _∙_}
+use mathlib.Core.Path.{_∙_}
 use Rattle.program.specs.Command.{rowAt}
 use Rattle.program.proofs.RowLaws.{column-digit}
 use borrow.Author.Needs.{needs}

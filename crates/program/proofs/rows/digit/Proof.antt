@@ -1,5 +1,4 @@
 -- The digit is shifted down and cut off.
-use mathlib.Core.Path.{_≡_, refl, sym, ap, _∙_}
 use Rattle.program.proofs.RowLaws.{digit-at}
 use borrow.Author.Needs.{needs}
 use Rattle.program.proofs.rows.digit.Statement.{statement}

@@ -1,5 +1,4 @@
 -- Each arm's digits are those of the definitions' row.
-use mathlib.Core.Path.{_≡_, refl, sym, ap, _∙_}
 use Rattle.program.specs.Command.{rows, rowAt}
 use Rattle.program.specs.Inner.Coding.{coded, slotIn, digits, packed}
 use Rattle.program.proofs.RowLaws.{none-left}

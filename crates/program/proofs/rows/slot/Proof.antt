@@ -1,5 +1,5 @@
 -- The last digits are where the kinds are.
-use mathlib.Core.Path.{_≡_, refl, sym, ap, _∙_}
+use mathlib.Core.Path.{_∙_}
 use Rattle.program.specs.Command.{rowAt}
 use Rattle.program.proofs.RowLaws.{slot-digit}
 use borrow.Author.Needs.{needs}
