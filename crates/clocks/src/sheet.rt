@@ -2,8 +2,8 @@
 ghost use mathlib.Core.Path.{_≡_};
 ghost use Rattle.rules.specs.Steps.{sheetOf};
 ghost use Rattle.clocks.specs.Sheet.{rowOf};
-use rules::checks::is_held;
-use rules::numbers::registration_number;
+use parts::checks::is_held;
+use parts::numbers::registration_number;
 use rules::state::Hold;
 use rules::state::State;
 

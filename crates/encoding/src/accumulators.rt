@@ -8,9 +8,9 @@ use super::numbers::are_zero;
 use super::numbers::number;
 use super::numbers::put_number;
 use super::numbers::put_zeros;
-use rules::empty::no_accumulator;
-use rules::numbers::operator_number;
-use rules::numbers::operator_of;
+use parts::empty::no_accumulator;
+use parts::numbers::operator_number;
+use parts::numbers::operator_of;
 use rules::state::Accumulator;
 
 // Whether 24 bytes encode an accumulator.

@@ -15,9 +15,9 @@ use super::numbers::bytes_at;
 use super::numbers::number;
 use super::numbers::put_bytes;
 use super::numbers::put_number;
-use rules::empty::no_activity;
-use rules::numbers::fault_number;
-use rules::numbers::fault_of;
+use parts::empty::no_activity;
+use parts::numbers::fault_number;
+use parts::numbers::fault_of;
 use rules::state::Activity;
 use rules::state::Status;
 

@@ -9,7 +9,7 @@ use super::numbers::are_zero;
 use super::numbers::number;
 use super::numbers::put_number;
 use super::numbers::put_zeros;
-use rules::empty::no_frame;
+use parts::empty::no_frame;
 use rules::state::Frame;
 
 // The body that 8 bytes encode.

@@ -10,8 +10,8 @@ use super::numbers::are_zero;
 use super::numbers::number;
 use super::numbers::put_number;
 use super::numbers::put_zeros;
-use rules::empty::no_hold;
-use rules::numbers::registration_number;
+use parts::empty::no_hold;
+use parts::numbers::registration_number;
 use rules::state::Hold;
 use rules::state::Registration;
 

@@ -27,7 +27,7 @@ pub fn decode(bytes: &[u8]) -> Decoded
     if bytes.len() != 13776 {
         return Decoded {
             ok: false,
-            state: rules::empty::zero_state(),
+            state: parts::empty::zero_state(),
         };
     }
     if fields::fields_encode(bytes) {
@@ -38,7 +38,7 @@ pub fn decode(bytes: &[u8]) -> Decoded
     } else {
         Decoded {
             ok: false,
-            state: rules::empty::zero_state(),
+            state: parts::empty::zero_state(),
         }
     }
 }

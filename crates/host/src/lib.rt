@@ -14,7 +14,7 @@ use machine::step;
 use program::table::read_table;
 use rules::answer::Answer;
 use rules::answer::Completion;
-use rules::numbers::answer_number;
+use parts::numbers::answer_number;
 
 mod sheet; // sheet.rt: the standing sheet as bytes
 

@@ -22,7 +22,7 @@ use program::command::Command;
 use program::command::opcode;
 use program::command::wide;
 use program::scan::Layout;
-use rules::checks::is_held;
+use parts::checks::is_held;
 use rules::state::Activity;
 
 // The command byte of FINISH.

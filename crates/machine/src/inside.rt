@@ -6,7 +6,7 @@ ghost use lib.Dec.{leb, eqb};
 ghost use Rattle.rules.specs.Search.{someBelow};
 ghost use Rattle.rules.specs.Waiting.{unendedInside};
 ghost use Rattle.machine.specs.Facing.{Rooted};
-use rules::checks::is_ended;
+use parts::checks::is_ended;
 use rules::state::State;
 
 // Whether activity x is inside: spawned by the owner from number `first` on, or by one inside.

@@ -5,8 +5,8 @@ ghost use Rattle.machine.specs.Turn.{overfull, isLast, overtakes, exceed
 use super::change::Shared;
 use program::command::Command;
 use program::command::opcode;
-use rules::checks::is_at_barrier;
-use rules::checks::is_held;
+use parts::checks::is_at_barrier;
+use parts::checks::is_held;
 use rules::state::Activity;
 use rules::state::Hold;
 

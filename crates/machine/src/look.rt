@@ -16,7 +16,7 @@ use super::waiting::waits_at;
 use program::command::Command;
 use program::command::wide;
 use program::scan::Layout;
-use rules::checks::is_ended;
+use parts::checks::is_ended;
 use rules::state::Activity;
 use rules::state::State;
 

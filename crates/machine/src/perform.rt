@@ -28,7 +28,7 @@ use super::stack::end_of;
 use super::stack::stopped;
 use program::command::Command;
 use program::scan::Layout;
-use rules::numbers::fault_of;
+use parts::numbers::fault_of;
 use rules::state::Activity;
 use rules::state::Status;
 

@@ -18,7 +18,7 @@ use program::command::Command;
 use program::command::opcode;
 use program::command::wide;
 use program::scan::Layout;
-use rules::checks::is_at_barrier;
+use parts::checks::is_at_barrier;
 use rules::state::Activity;
 use rules::state::State;
 

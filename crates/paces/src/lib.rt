@@ -6,7 +6,7 @@ ghost use Rattle.paces.specs.Number.{pacesNumber};
 use machine::start;
 use machine::step;
 use program::command::wide;
-use rules::numbers::answer_number;
+use parts::numbers::answer_number;
 
 // The start and a step by value for each byte of the order: each step's answer goes into the buffer.
 #[no_mangle]

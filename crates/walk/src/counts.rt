@@ -6,7 +6,7 @@ ghost use Rattle.rules.specs.Search.{countBelow};
 ghost use Rattle.lines.specs.Put.{Put};
 ghost use Rattle.lines.specs.Text.{totalOf};
 use lines::put_total;
-use rules::checks::is_ended;
+use parts::checks::is_ended;
 use rules::state::State;
 
 // How many activities have ended, faulted ones too.

@@ -17,8 +17,8 @@ use super::stack::stack_fits;
 use program::command::opcode;
 use program::command::wide;
 use program::scan::Layout;
-use rules::checks::is_at_barrier;
-use rules::checks::is_ended;
+use parts::checks::is_at_barrier;
+use parts::checks::is_ended;
 use rules::state::Activity;
 
 // The byte of NEXT.

@@ -7,8 +7,8 @@ ghost use Rattle.rules.specs.State.{hold};
 ghost use Rattle.rules.specs.Clocks.{holdsSome};
 ghost use Rattle.rules.specs.WellFormed.{holdFits, namesFit};
 ghost use Rattle.wellformed.specs.Entries.{holdIsFit, areApart};
-use rules::checks::is_held;
-use rules::checks::is_no_hold;
+use parts::checks::is_held;
+use parts::checks::is_no_hold;
 use rules::state::Activity;
 use rules::state::Hold;
 

@@ -15,7 +15,7 @@ use program::command::opcode;
 use program::command::times;
 use program::command::wide;
 use program::scan::Layout;
-use rules::checks::is_no_frame;
+use parts::checks::is_no_frame;
 use rules::state::Activity;
 use rules::state::Frame;
 

@@ -5,9 +5,9 @@ ghost use mathlib.Core.Path.{_≡_};
 ghost use Rattle.rules.specs.Search.{allBelow};
 ghost use Rattle.rules.specs.State.{frame, hold, bound};
 ghost use Rattle.rules.specs.WellFormed.{isNoFrame, isNoHold, isNoActivity};
-use rules::checks::is_no_frame;
-use rules::checks::is_no_hold;
-use rules::checks::is_running;
+use parts::checks::is_no_frame;
+use parts::checks::is_no_hold;
+use parts::checks::is_running;
 use rules::state::Activity;
 
 // Whether every frame is all 0.

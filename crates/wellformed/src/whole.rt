@@ -10,7 +10,7 @@ use super::activity::activity_fits;
 use super::unused::is_no_activity;
 use program::command::wide;
 use program::scan::Layout;
-use rules::checks::is_no_accumulator;
+use parts::checks::is_no_accumulator;
 use rules::state::Accumulator;
 use rules::state::State;
 

@@ -1,0 +1,19 @@
+-- The first entry that is not 0 decides.
+use borrow.Author.Tests.{eq-eqb, ne-eqb}
+use Rattle.parts.proofs.checks.is_no_frame.Statement.{statement}
+use Rattle.parts.proofs.checks.is_no_frame.Tie as tie
+
+returns : tie.Need-returns
+returns c = rw (ne-eqb _ 0 (c .if1 .taken))
+
+returns-2 : tie.Need-returns-2
+returns-2 c = rw (eq-eqb _ 0 (c .before .before .if1 .left), ne-eqb _ 0 (c .if2 .taken))
+
+returns-3 : tie.Need-returns-3
+returns-3 c = rw (eq-eqb _ 0 (c .before .before .before .before .if1 .left), eq-eqb _ 0 (c .before .before .if2 .left), ne-eqb _ 0 (c .if3 .taken))
+
+returns-4 : tie.Need-returns-4
+returns-4 c = rw (eq-eqb _ 0 (c .before .before .before .before .before .if1 .left), eq-eqb _ 0 (c .before .before .before .if2 .left), eq-eqb _ 0 (c .before .if3 .left))
+
+pub is-no-frame-spec : {M : Type 1} → statement M
+is-no-frame-spec = tie.close (tie.spec returns returns-2 returns-3 returns-4)
