@@ -11,10 +11,10 @@ use machine::registrations;
 use machine::run;
 use machine::start;
 use machine::step;
+use parts::numbers::answer_number;
 use program::table::read_table;
 use rules::answer::Answer;
 use rules::answer::Completion;
-use parts::numbers::answer_number;
 
 mod sheet; // sheet.rt: the standing sheet as bytes
 

@@ -24,9 +24,10 @@ use Rattle.rules.specs.Effects.{child, envOf}
 use Rattle.rules.specs.Steps.{base, at, effect, refusal, exceeds, stepped, advance}
 use Rattle.rules.proofs.Tests.{and-true, true-false, decide}
 use Rattle.rules.proofs.WellFormedFacts.{facts}
-use Rattle.machine.specs.Change.{whole, lone, changed, Alters, IsChild}
+use Rattle.parts.specs.Shared.{whole, lone}
+use Rattle.machine.specs.Change.{changed, Alters, IsChild}
 use Rattle.machine.specs.Turn.{overfull, exceedsAt, Turn, Viewed, DueAt, TurnedAt}
-use Rattle.machine.specs.declared.change.Shared.{Shared}
+use Rattle.parts.specs.declared.shared.Shared.{Shared}
 use Rattle.machine.specs.declared.change.Change.{Change}
 use Rattle.machine.specs.declared.look.Seen.{Seen}
 use Rattle.machine.proofs.Facing.{over, fault-met, faults-first, waited}

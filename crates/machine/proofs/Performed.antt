@@ -28,9 +28,10 @@ use Rattle.rules.proofs.Tests.{and-false, cond-zero}
 use Rattle.rules.proofs.Search.{someBelow-none}
 use Rattle.machine.specs.Known.{On}
 use Rattle.machine.specs.Cells.{InRange}
-use Rattle.machine.specs.Change.{lone, Does, IsChild}
+use Rattle.parts.specs.Shared.{lone}
+use Rattle.machine.specs.Change.{Does, IsChild}
 use Rattle.machine.specs.Perform.{Passable, PerformsAs, Performs, TouchedBy, Bound, Performing, Performed}
-use Rattle.machine.specs.declared.change.Shared.{Shared}
+use Rattle.parts.specs.declared.shared.Shared.{Shared}
 use Rattle.machine.specs.declared.change.Change.{Change}
 use Rattle.machine.proofs.Places.{sound-here}
 

@@ -23,9 +23,10 @@ use Rattle.rules.specs.Steps.{base, at, fault, effect, refusal, exceeds, steppe
 use Rattle.rules.proofs.WellFormedApply.{turn, room}
 use Rattle.rules.proofs.WellFormedFacts.{facts}
 use Rattle.machine.specs.Stack.{Stacked}
-use Rattle.machine.specs.Change.{whole, lone, Alters, Does, IsChild}
+use Rattle.parts.specs.Shared.{whole, lone}
+use Rattle.machine.specs.Change.{Alters, Does, IsChild}
 use Rattle.machine.specs.Perform.{Performing, Performed}
-use Rattle.machine.specs.declared.change.Shared.{Shared}
+use Rattle.parts.specs.declared.shared.Shared.{Shared}
 use Rattle.machine.specs.declared.change.Change.{Change}
 use Rattle.machine.specs.Turn.{Fit, Turn}
 use Rattle.machine.proofs.Facing.{stack-of, facing}

@@ -1,4 +1,4 @@
--- A state in two parts, as a run holds it: the activities, and what they share. What a turn changes of them, beside the effect of its command.
+-- What a turn changes of a state, beside the effect of its command.
 use Prim.Native.Nat.{ℕ}
 use mathlib.Core.Path.{_≡_}
 use mathlib.Core.List.{List, []}
@@ -11,29 +11,9 @@ use Rattle.rules.specs.declared.state.State.{State}
 use Rattle.rules.specs.State.{statusAnswer}
 use Rattle.rules.specs.Effects.{Stored, nobody, keep, Effect, spawning, withStores, child, applied}
 use Rattle.rules.specs.Steps.{spawns}
-use Rattle.machine.specs.declared.change.Shared.{Shared}
+use Rattle.parts.specs.declared.shared.Shared.{Shared}
+use Rattle.parts.specs.Shared.{whole}
 use Rattle.machine.specs.declared.change.Change.{Change}
-
--- THE TWO PARTS
-
-abbrev pub sharedOf : State → Shared
-sharedOf s = record { cells = s .cells; accs = s .accs; steps = s .steps; activities = s .activities; clocks = s .clocks; accumulators = s .accumulators }
-
-abbrev pub whole : List Activity → Shared → State
-whole acts e =
-    record {
-      cells = e .cells;
-      acts = acts;
-      accs = e .accs;
-      steps = e .steps;
-      activities = e .activities;
-      clocks = e .clocks;
-      accumulators = e .accumulators;
-    }
-
--- A state of which only the shared part matters.
-abbrev pub lone : Shared → State
-lone e = whole [] e
 
 -- A CHANGE
 

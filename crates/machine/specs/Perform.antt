@@ -23,9 +23,10 @@ use Rattle.machine.specs.Known.{Known}
 use Rattle.machine.specs.Stack.{Stacked}
 use Rattle.machine.specs.Cells.{Agrees}
 use Rattle.machine.specs.declared.cells.Touched.{Touched}
-use Rattle.machine.specs.declared.change.Shared.{Shared}
+use Rattle.parts.specs.declared.shared.Shared.{Shared}
 use Rattle.machine.specs.declared.change.Change.{Change}
-use Rattle.machine.specs.Change.{lone, Alters, Does, IsChild}
+use Rattle.parts.specs.Shared.{lone}
+use Rattle.machine.specs.Change.{Alters, Does, IsChild}
 
 -- Passing keeps each phase within its limit.
 unfoldable pub Passable : List Hold → Type 0

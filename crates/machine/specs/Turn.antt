@@ -25,8 +25,9 @@ use Rattle.rules.specs.Effects.{envOf}
 use Rattle.rules.specs.Steps.{base, at, fault, effect, refusal, exceeds, advance}
 use Rattle.rules.specs.Runs.{runFrom, answersFrom}
 use Rattle.machine.specs.Known.{Known}
-use Rattle.machine.specs.Change.{whole, lone, changed, Alters, IsChild}
-use Rattle.machine.specs.declared.change.Shared.{Shared}
+use Rattle.parts.specs.Shared.{whole, lone}
+use Rattle.machine.specs.Change.{changed, Alters, IsChild}
+use Rattle.parts.specs.declared.shared.Shared.{Shared}
 use Rattle.machine.specs.declared.change.Change.{Change}
 use Rattle.machine.specs.declared.look.Seen.{Seen}
 

@@ -1,25 +1,15 @@
-// A state in two parts, as a run holds it: the activities, and what they share. What a turn changes of them.
+// What a turn changes of a state.
 ghost use mathlib.Core.Path.{_≡_};
 ghost use mathlib.Core.Bool.{false};
 ghost use Prim.Native.Nat.{_<_};
 ghost use Rattle.rules.specs.Effects.{alone, clocking, writing, make, offer, reset};
-ghost use Rattle.machine.specs.Change.{sharedOf, whole, changing, Does, Spawns, Stores};
+ghost use Rattle.machine.specs.Change.{changing, Does, Spawns, Stores};
 use parts::numbers::status_answer;
 use parts::reduction::reduce;
 use parts::reduction::with_value;
+use parts::shared::Shared;
 use rules::state::Accumulator;
 use rules::state::Activity;
-use rules::state::State;
-
-// What the activities share: the cells, the accumulators and the counts.
-pub struct Shared {
-    pub cells: [u32; 16],
-    pub accs: [Accumulator; 16],
-    pub steps: u16,
-    pub activities: u8,
-    pub clocks: u8,
-    pub accumulators: u8,
-}
 
 // What a turn leaves: the activity that took it, what is shared, whether it spawned another, and the number of its answer.
 pub struct Change {
@@ -27,39 +17,6 @@ pub struct Change {
     pub shared: Shared,
     pub spawned: bool,
     pub number: u8,
-}
-
-// What a state's activities share.
-pub fn shared_of(s: State) -> Shared
-    ensures { λ r. ⌜ r ≡ sharedOf s ⌝ }
-{
-    let cells = s.cells;
-    let accs = s.accs;
-    Shared {
-        cells,
-        accs,
-        steps: s.steps,
-        activities: s.activities,
-        clocks: s.clocks,
-        accumulators: s.accumulators,
-    }
-}
-
-// The state of both parts.
-pub fn whole(acts: [Activity; 64], e: Shared) -> State
-    ensures { λ r. ⌜ r ≡ whole acts e ⌝ }
-{
-    let cells = e.cells;
-    let accs = e.accs;
-    State {
-        cells,
-        acts,
-        accs,
-        steps: e.steps,
-        activities: e.activities,
-        clocks: e.clocks,
-        accumulators: e.accumulators,
-    }
 }
 
 // A turn that is turned down changes nothing.

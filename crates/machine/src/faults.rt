@@ -9,20 +9,20 @@ ghost use Rattle.rules.specs.Clocks.{holds};
 ghost use Rattle.rules.specs.Tree.{finishes, inOwnFinish};
 ghost use Rattle.rules.specs.Faults.{unbound, asyncFault, readFault, faultFor};
 ghost use Rattle.rules.specs.Effects.{envOf};
-ghost use Rattle.machine.specs.Change.{lone};
+ghost use Rattle.parts.specs.Shared.{lone};
 ghost use Rattle.machine.specs.Known.{Known};
 ghost use Rattle.machine.specs.Stack.{Stacked};
 ghost use Rattle.machine.specs.Facing.{Facing};
-use super::change::Shared;
 use super::place::command_at;
 use clocks::own::holds_some;
 use clocks::own::lends_quiesced;
 use clocks::own::lends_unheld;
+use parts::checks::is_held;
+use parts::shared::Shared;
 use program::command::Command;
 use program::command::opcode;
 use program::command::wide;
 use program::scan::Layout;
-use parts::checks::is_held;
 use rules::state::Activity;
 
 // The command byte of FINISH.

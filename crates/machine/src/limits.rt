@@ -1,12 +1,12 @@
 // Number 17: what a step would need more than there is.
 ghost use mathlib.Core.Path.{_≡_};
-ghost use Rattle.machine.specs.Change.{lone};
+ghost use Rattle.parts.specs.Shared.{lone};
 ghost use Rattle.machine.specs.Turn.{overfull, isLast, overtakes, exceedsAt};
-use super::change::Shared;
-use program::command::Command;
-use program::command::opcode;
 use parts::checks::is_at_barrier;
 use parts::checks::is_held;
+use parts::shared::Shared;
+use program::command::Command;
+use program::command::opcode;
 use rules::state::Activity;
 use rules::state::Hold;
 

@@ -14,11 +14,11 @@ ghost use Rattle.machine.specs.Facing.{Rooted, Placed, Asks};
 use super::faults::finishes;
 use super::inside::someone_inside;
 use clocks::barrier::someone_behind;
+use parts::checks::is_at_barrier;
 use program::command::Command;
 use program::command::opcode;
 use program::command::wide;
 use program::scan::Layout;
-use parts::checks::is_at_barrier;
 use rules::state::Activity;
 use rules::state::State;
 

@@ -5,8 +5,8 @@ ghost use Rattle.machine.specs.Ran.{answered};
 ghost use Rattle.paces.specs.Number.{pacesNumber};
 use machine::start;
 use machine::step;
-use program::command::wide;
 use parts::numbers::answer_number;
+use program::command::wide;
 
 // The start and a step by value for each byte of the order: each step's answer goes into the buffer.
 #[no_mangle]

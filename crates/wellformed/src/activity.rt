@@ -14,11 +14,11 @@ use super::clocks::holds_none;
 use super::clocks::names_fit;
 use super::place::command_at;
 use super::stack::stack_fits;
+use parts::checks::is_at_barrier;
+use parts::checks::is_ended;
 use program::command::opcode;
 use program::command::wide;
 use program::scan::Layout;
-use parts::checks::is_at_barrier;
-use parts::checks::is_ended;
 use rules::state::Activity;
 
 // The byte of NEXT.

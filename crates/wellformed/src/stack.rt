@@ -9,13 +9,13 @@ ghost use Rattle.rules.specs.WellFormed.{runBy, isPlaced, isBottom, isStacked, 
 ghost use Rattle.wellformed.specs.Known.{Known, Marked};
 use super::place::command_at;
 use super::place::is_placed;
+use parts::checks::is_no_frame;
 use program::command::Command;
 use program::command::named;
 use program::command::opcode;
 use program::command::times;
 use program::command::wide;
 use program::scan::Layout;
-use parts::checks::is_no_frame;
 use rules::state::Activity;
 use rules::state::Frame;
 

@@ -8,9 +8,9 @@ ghost use Rattle.wellformed.specs.Entries.{accumulatorEntry, accumulator
 use super::activity::Made;
 use super::activity::activity_fits;
 use super::unused::is_no_activity;
+use parts::checks::is_no_accumulator;
 use program::command::wide;
 use program::scan::Layout;
-use parts::checks::is_no_accumulator;
 use rules::state::Accumulator;
 use rules::state::State;
 

@@ -10,9 +10,9 @@ use Rattle.rules.specs.declared.answer.Stepped.{Stepped}
 use Rattle.rules.specs.State.{answerNumber, act}
 use Rattle.rules.specs.Steps.{base, stepped, advance}
 use Rattle.rules.specs.Runs.{runFrom}
-use Rattle.machine.specs.Change.{whole}
+use Rattle.parts.specs.Shared.{whole}
 use Rattle.machine.specs.Turn.{Fit, DueAt, Turned, Followable, answeredFrom}
-use Rattle.machine.specs.declared.change.Shared.{Shared}
+use Rattle.parts.specs.declared.shared.Shared.{Shared}
 use Rattle.machine.proofs.Facing.{able, rooted, placed, unspawned}
 use Rattle.machine.proofs.Turns.{turned-down}
 use Rattle.machine.proofs.Dues.{wait-asked, wait-unasked, turn-spawned, turn-alone}

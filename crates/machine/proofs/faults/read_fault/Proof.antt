@@ -3,7 +3,7 @@ use native.Mathlib.Omega.{arith}
 use mathlib.Core.Path.{sym, _∙_}
 use Rattle.rules.specs.Faults.{readFault}
 use Rattle.machine.proofs.Facing.{unbound-name, few-name, others, while-held, may-read}
-use Rattle.machine.specs.Change.{lone}
+use Rattle.parts.specs.Shared.{lone}
 use borrow.Author.Needs.{needs}
 use Rattle.machine.proofs.faults.read_fault.Statement.{statement}
 use Rattle.machine.proofs.faults.read_fault.Tie as tie

@@ -1,6 +1,6 @@
 -- The command's byte decides what is counted.
 use Rattle.machine.proofs.Exceeding.{full-activities, full-clocks, full-accumulators, full-none}
-use Rattle.machine.specs.Change.{lone}
+use Rattle.parts.specs.Shared.{lone}
 use borrow.Author.Needs.{needs}
 use Rattle.machine.proofs.limits.overfull.Statement.{statement}
 use Rattle.machine.proofs.limits.overfull.Tie as tie

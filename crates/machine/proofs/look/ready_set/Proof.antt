@@ -8,9 +8,9 @@ use borrow.Author.Tests.{eqb-true, eqb-false}
 use Rattle.rules.specs.State.{act}
 use Rattle.rules.specs.Search.{bitsBelow}
 use Rattle.rules.specs.Steps.{canStep}
-use Rattle.machine.specs.Change.{sharedOf}
+use Rattle.parts.specs.Shared.{sharedOf}
 use Rattle.machine.specs.Turn.{Sees, Viewed}
-use Rattle.machine.specs.declared.change.Shared.{Shared}
+use Rattle.parts.specs.declared.shared.Shared.{Shared}
 use Rattle.machine.proofs.Dues.{refusal-here, wait-asked, wait-unasked}
 use Rattle.machine.proofs.Facing.{able, rooted, placed}
 use Rattle.machine.proofs.Readies.{bit-set, bit-left, none-after}
