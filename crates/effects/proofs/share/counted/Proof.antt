@@ -1,0 +1,22 @@
+-- Where there is room, the count is one more.
+use Prim.Native.Nat.{ℕ, _≤_, _<_}
+use native.Mathlib.Omega.{arith}
+use mathlib.Core.Path.{refl}
+use Rattle.effects.specs.Share.{Counts}
+use borrow.Author.Needs.{needs}
+use Rattle.effects.proofs.share.counted.Statement.{statement}
+use Rattle.effects.proofs.share.counted.Tie as tie
+
+returns : tie.Need-returns
+unfolding Counts
+returns c = λ h. let q = c .if1 .taken in absurd (omega arith)
+
+add-next : tie.Need-add-next
+add-next c = search needs
+
+returns-2 : tie.Need-returns-2
+unfolding Counts
+returns-2 c = λ h. refl
+
+pub counted-spec : {M : Type 1} → statement M
+counted-spec = tie.close (tie.spec returns add-next returns-2)

@@ -1,0 +1,22 @@
+-- Where there is room, the count is one more.
+use Prim.Native.Nat.{ℕ, _≤_, _<_}
+use native.Mathlib.Omega.{arith}
+use mathlib.Core.Path.{refl}
+use Rattle.effects.specs.Share.{Spawns}
+use borrow.Author.Needs.{needs}
+use Rattle.effects.proofs.share.spawning.Statement.{statement}
+use Rattle.effects.proofs.share.spawning.Tie as tie
+
+returns : tie.Need-returns
+unfolding Spawns
+returns c = λ h. let q = c .if1 .taken in absurd (omega arith)
+
+add-next : tie.Need-add-next
+add-next c = search needs
+
+returns-2 : tie.Need-returns-2
+unfolding Spawns
+returns-2 c = λ h. refl
+
+pub spawning-spec : {M : Type 1} → statement M
+spawning-spec = tie.close (tie.spec returns add-next returns-2)
