@@ -1,2 +1,5 @@
+pub mod Stacks
+pub mod Passing
+pub mod Arms
 pub mod Storing
 pub mod Sharing

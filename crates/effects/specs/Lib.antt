@@ -1,2 +1,5 @@
+pub mod Stack
+pub mod Becomes
+pub mod Own
 pub mod Cells
 pub mod Share

@@ -26,12 +26,15 @@ use Rattle.rules.proofs.Tests.{and-true, true-false, decide}
 use Rattle.rules.proofs.WellFormedFacts.{facts}
 use Rattle.parts.specs.Shared.{whole, lone}
 use Rattle.machine.specs.Change.{changed, Alters, IsChild}
-use Rattle.machine.specs.Turn.{overfull, exceedsAt, Turn, Viewed, DueAt, TurnedAt}
+use Rattle.guards.specs.Views.{Viewed}
+use Rattle.guards.specs.Exceeding.{overfull, exceedsAt}
+use Rattle.machine.specs.Turn.{Turn, DueAt, TurnedAt}
 use Rattle.parts.specs.declared.shared.Shared.{Shared}
 use Rattle.machine.specs.declared.change.Change.{Change}
-use Rattle.machine.specs.declared.look.Seen.{Seen}
-use Rattle.machine.proofs.Facing.{over, fault-met, faults-first, waited}
-use Rattle.machine.proofs.Exceeding.{exceeds-at, measured}
+use Rattle.guards.specs.declared.look.Seen.{Seen}
+use Rattle.guards.proofs.Facing.{fault-met}
+use Rattle.guards.proofs.Views.{runs-own, stands, met, goes-here}
+use Rattle.guards.proofs.Exceeding.{exceeds-at, measured}
 use Rattle.machine.proofs.Performed.{within}
 
 -- Somebody whom a command spawns, if it does.
@@ -41,73 +44,6 @@ born i a c = child i a (getD (operandsOf c) 0 0) (getD (operandsOf c) 1 0)
 pub born-child : (i : ℕ) (a : Activity) (c : Command) → IsChild i a c (born i a c)
 unfolding IsChild born
 born-child i a c b m e = rw e
-
--- WHAT IS SEEN
-
-module _ {p : Program} {e : Shared} {i : ℕ} {a : Activity} {seen : Seen} {waits : Bool} {acts : List Activity} (d : Viewed p e i a seen waits acts) where
-  -- An activity with a number has ended.
-  pub ended-here : (seen .number ≡ 0 → ⊥) → isEnded (a .status) ≡ true
-  ended-here n = go (decide (isEnded (a .status)))
-    where
-      go : (isEnded (a .status) ≡ true) ⊎ (isEnded (a .status) ≡ false) → isEnded (a .status) ≡ true
-      go (inl r) = r
-      go (inr r) = absurd (n (d .sees .goes r))
-
-  pub ended-number : (seen .number ≡ 0 → ⊥) → seen .number ≡ refusal p (whole acts e) i
-  ended-number n = d .sees .over (ended-here n) ∙ over p (whole acts e) i (d .made) (rw (d .own) at (ended-here n))
-
-  -- One without has not.
-  module _ (z : seen .number ≡ 0) where
-    pub runs : isEnded (a .status) ≡ false
-    runs = go (decide (isEnded (a .status)))
-      where
-        go : (isEnded (a .status) ≡ true) ⊎ (isEnded (a .status) ≡ false) → isEnded (a .status) ≡ false
-        go (inl r) = let q = d .sees .over r in absurd (omega arith)
-        go (inr r) = r
-
-    pub runs-own : isEnded (act (whole acts e) i .status) ≡ false
-    runs-own = rw (d .own) at runs
-
-    pub stands : seen .command ≡ here p (top (act (whole acts e) i)) .command
-    stands = d .sees .command runs ∙ ap (λ (x : Activity). here p (top x) .command) (d .own)
-
-    pub met : seen .fault ≡ faultFor p (envOf (whole acts e)) i (act (whole acts e) i) (seen .command)
-    met = d .sees .fault runs ∙ rw (d .own, stands)
-
-    -- It waits where it was asked and found waiting.
-    asked-wait : seen .fault ≡ 0 → waitsAt p (whole acts e) i (act (whole acts e) i) (seen .command) ≡ waits
-    asked-wait f = rw (stands, ← d .own) (go (decide (seen .asks)))
-      where
-        go : (seen .asks ≡ true) ⊎ (seen .asks ≡ false) → waitsAt p (whole acts e) i a (here p (top a) .command) ≡ waits
-        go (inl q) = sym (d .waited ∙ rw q)
-        go (inr q) = d .sees .quiet runs q f (whole acts e) i ∙ sym (d .waited ∙ rw q)
-
-    -- Number 16.
-    pub wait-number : waits ≡ true → 16 ≡ refusal p (whole acts e) i
-    wait-number w =
-        let f = d .sees .asking (and-true (seen .asks) _ (sym (d .waited) ∙ w) .0) .1 in
-        waited p (whole acts e) i (d .made) runs-own stands true met f (sym w ∙ sym (asked-wait f))
-
-    -- No number.
-    pub goes-here : waits ≡ false → refusal p (whole acts e) i ≡ 0
-    goes-here w = go (ℕ-discrete (seen .fault) 0)
-      where
-        go : Dec (seen .fault ≡ 0) → refusal p (whole acts e) i ≡ 0
-        go (yes f) = sym (waited p (whole acts e) i (d .made) runs-own stands false met f (sym w ∙ sym (asked-wait f)))
-        go (no f) = sym (faults-first p (whole acts e) i (d .made) runs-own stands met f)
-
-  -- The number of its call so far: 15, 16 or none.
-  pub refusal-here : cond waits 16 (seen .number) ≡ refusal p (whole acts e) i
-  refusal-here = go (decide waits) (ℕ-discrete (seen .number) 0)
-    where
-      shut : (seen .number ≡ 0 → ⊥) → waits ≡ true → ⊥
-      shut n w = true-false _ (ended-here n) (d .sees .asking (and-true (seen .asks) _ (sym (d .waited) ∙ w) .0) .0)
-
-      go : (waits ≡ true) ⊎ (waits ≡ false) → Dec (seen .number ≡ 0) → cond waits 16 (seen .number) ≡ refusal p (whole acts e) i
-      go (inl w) (yes z) = rw w (wait-number z w)
-      go (inl w) (no n) = absurd (shut n w)
-      go (inr w) (yes z) = rw (w, z) (sym (goes-here z w))
-      go (inr w) (no n) = rw w (ended-number n)
 
 -- WHAT BECOMES OF IT
 
@@ -156,16 +92,6 @@ module _ {t : List ℕ} {l : Layout} {work : ℕ} {e : Shared} {i : ℕ} {a : Ac
         number = f (born i a (seen .command)) (born-child i a (seen .command)) .number ∙ rw (z, x);
         room = λ s. within (programOf t) (whole acts e) _ x .spawned (sym (f (born i a (seen .command)) (born-child i a (seen .command)) .spawned) ∙ s);
       }
-
--- THE CODE'S TWO WAYS
-
--- It waits where it was asked.
-pub wait-asked : (p : Program) (i : ℕ) (a : Activity) {s r : State} {c o : Command} {asks waits : Bool} → s ≡ r → c ≡ o → asks ≡ true → waits ≡ waitsAt p s i a c
-    → waits ≡ asks && waitsAt p r i a o
-wait-asked p i a e q t h = h ∙ rw (e, q, t)
-
-pub wait-unasked : (b : Bool) {asks waits : Bool} → asks ≡ false → waits ≡ false → waits ≡ asks && b
-wait-unasked b t h = rw t h
 
 -- What is stored is the change.
 module _ {p : Program} {acts : List Activity} {e : Shared} {i : ℕ} {a : Activity} {command : Command} {r : Change} (d : TurnedAt p acts e i a command r) {after : List Activity} {shared : Shared}

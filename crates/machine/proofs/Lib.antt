@@ -1,15 +1,7 @@
-pub mod Places
-pub mod Stacks
-pub mod Chains
-pub mod Facing
-pub mod Asked
-pub mod Exceeding
-pub mod Readies
+pub mod Storing
+pub mod Performed
 pub mod Turns
 pub mod Dues
 pub mod Calls
 pub mod Runs
-pub mod Storing
-pub mod Performed
-pub mod Passing
 pub mod Single

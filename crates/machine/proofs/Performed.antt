@@ -1,39 +1,39 @@
--- What a well-formed state and a passed number 17 give to each command.
+-- What a well-formed state and a passed number 17 give to each command, and what is changed.
 use Prim.Native.Nat.{ℕ, _-_, _≤_, _<_}
 use native.Mathlib.Omega.{arith}
 use mathlib.Core.Path.{_≡_, refl, sym, ap, _∙_}
 use mathlib.Core.List.{List}
 use mathlib.Core.Bool.{Bool, true, false, cond, _||_, _&&_}
-use lib.ListN.{length, List·getD-map}
+use lib.ListN.{length, set}
 use lib.Dec.{ltb, leb}
-use borrow.Author.Tests.{ltb-false, leb-false, eqb-false}
-use Rattle.program.specs.Command.{isEnd, names}
+use borrow.Author.Tests.{ltb-false, leb-false}
+use Rattle.program.specs.Command.{names}
 use Rattle.program.specs.Bodies.{Program, programOf}
 use Rattle.program.specs.Count.{workOf}
 use Rattle.program.specs.declared.command.Command.{Command}
-use Rattle.program.specs.declared.command.Command.the-variants.{Next, Atom}
 use Rattle.program.specs.declared.scan.Layout.{Layout}
-use Rattle.program.proofs.Shape.{Sound, Ranged}
 use Rattle.program.proofs.ShapeLaws.{accepted}
 use Rattle.rules.specs.declared.state.Activity.{Activity}
 use Rattle.rules.specs.declared.state.State.{State}
 use Rattle.rules.specs.Search.{someBelow}
-use Rattle.rules.specs.State.{noHold, top, hold, bound, isAtBarrier}
-use Rattle.rules.specs.Clocks.{pass}
-use Rattle.rules.specs.Tree.{here, nextOffset}
-use Rattle.rules.specs.Faults.{unbound}
-use Rattle.rules.specs.Effects.{Effect, past, nextOf, touching, touch, touchAll, untouched, effectOf, envOf}
+use Rattle.rules.specs.State.{top, hold}
+use Rattle.rules.specs.Tree.{here}
+use Rattle.rules.specs.Faults.{Env}
+use Rattle.rules.specs.Effects.{Write, keep, make, offer, reset, Effect, withSpawned, withWritten, effectOf, envOf, applied}
 use Rattle.rules.specs.Steps.{base, spawns, makes, exceeds}
-use Rattle.rules.proofs.Tests.{and-false, cond-zero}
+use Rattle.rules.proofs.Tests.{and-false}
 use Rattle.rules.proofs.Search.{someBelow-none}
-use Rattle.machine.specs.Known.{On}
-use Rattle.machine.specs.Cells.{InRange}
-use Rattle.parts.specs.Shared.{lone}
-use Rattle.machine.specs.Change.{Does, IsChild}
-use Rattle.machine.specs.Perform.{Passable, PerformsAs, Performs, TouchedBy, Bound, Performing, Performed}
+use Rattle.rules.proofs.Shapes.{Kind, ends, meets, forks, opens, loops, moves}
 use Rattle.parts.specs.declared.shared.Shared.{Shared}
+use Rattle.parts.specs.Shared.{whole, lone}
+use Rattle.effects.specs.Cells.{InRange}
+use Rattle.effects.specs.Share.{after, Roomy}
+use Rattle.effects.specs.Own.{Given}
+use Rattle.guards.specs.Facing.{Facing, Next}
+use Rattle.machine.specs.Change.{changing, changed, Alters, IsChild}
+use Rattle.machine.specs.Perform.{effectHere, Performing}
 use Rattle.machine.specs.declared.change.Change.{Change}
-use Rattle.machine.proofs.Places.{sound-here}
+use Rattle.machine.proofs.Storing.{sound, ranged}
 
 -- NUMBER 17
 
@@ -64,78 +64,83 @@ within p s e h =
       steps = leb-false _ _ (l .1);
     }
 
--- THE COMMANDS
+-- THE COMMAND
 
--- The same of the command that was found.
-pub told : {t : List ℕ} {l : Layout} {s : State} {i : ℕ} {a : Activity} {command : Command} {next : ℕ} {o : Command} → Performing t l s i a command next → command ≡ o
-    → Performing t l s i a o next
-told h e = rw e at h
-
-module _ {t : List ℕ} {l : Layout} {s : State} {i : ℕ} {a : Activity} {command : Command} {next : ℕ} (h : Performing t l s i a command next) where
+module _ {t : List ℕ} {l : Layout} {e : Shared} {i : ℕ} {a : Activity} {command : Command} (h : Performing t l (lone e) i a command) where
   -- It does not exceed.
-  pub fitting : Within (programOf t) s (effectOf (programOf t) (envOf s) i a command (here (programOf t) (top a) .inner))
-  fitting = within (programOf t) s _ (h .fits)
+  fitting : Within (programOf t) (lone e) (effectHere (programOf t) (lone e) i a command)
+  fitting = within (programOf t) (lone e) _ (h .fits)
 
-  pub room : s .steps < 65535
-  room = let w = fitting .steps in let k = h .work in omega arith
+  pub facing : Facing t l a command
+  facing = record { known = h .known; stack = h .stack; stands = h .stands }
 
-  pub on : On t (top a) command
-  on = let q = h .stack .some in record { scanned = h .known .scanned; placed = h .stack .placed (a .depth - 1) (omega arith); stands = h .stands }
-
-  sound : Sound (length (programOf t)) (top a .body) (here (programOf t) (top a))
-  sound = sound-here t (h .known .scanned) (top a) (on .placed)
-
-  pub ranged : InRange command
-  unfolding InRange Ranged
-  ranged = rw (h .stands) (sound .ranged)
+  -- There is room for what it makes.
+  pub roomy : Roomy e (effectHere (programOf t) (lone e) i a command)
+  roomy =
+      let w = fitting .steps in
+      let k = h .work in
+      record { steps = omega arith; spawned = fitting .spawned; clocked = fitting .clocked; made = fitting .made }
 
   -- A command that runs a body stands low enough for one more.
-  pub shallow : names command ≡ true → a .depth < 16
+  shallow : names command ≡ true → a .depth < 16
   shallow e =
-      let q = sound .above (ap names (sym (h .stands)) ∙ e) in
+      let q = sound facing .above (ap names (sym (h .stands)) ∙ e) in
       let k = accepted t (h .known .scanned) .few in
       let high = h .stack .high in
       omega arith
 
-  -- An accumulator under a name that did not fault as unbound.
-  pub bound-to : (n m : ℕ) → n < 8 → cond (unbound a n) 5 m ≡ 0 → Bound a n
-  bound-to n m small e =
-      let q = eqb-false (bound a n) 0 (cond-zero (unbound a n) 4 m e .0) in
-      record { name = small; some = omega (arith, q); few = h .bindings n small }
+  -- What crate effects is told of it.
+  pub given : {next register : ℕ} → Next (programOf t) a command next → register ≡ effectHere (programOf t) (lone e) i a command .self .register
+      → Given (programOf t) (envOf (lone e)) i a command (here (programOf t) (top a) .inner) next register (e .activities) (e .clocks) (e .accumulators)
+  unfolding InRange
+  given n q =
+      record {
+        some = h .stack .some;
+        few = h .stack .few;
+        ranged = ranged facing;
+        onward = n .onward;
+        back = n .back;
+        shallow = shallow;
+        phases = fitting .phases;
+        first = refl;
+        clock = refl;
+        made = refl;
+        room = fitting .made;
+        hand = q;
+      }
 
--- Passing does not exceed.
-pub passable : {t : List ℕ} {l : Layout} {s : State} {i : ℕ} {a : Activity} {next : ℕ} → Performing t l s i a Next next → isAtBarrier (a .status) ≡ true → Passable (a .holds)
-unfolding effectOf nextOf past Passable
-passable {a = a} h e k small = let q = rw e at (fitting h .phases k small) in rw (List·getD-map pass (a .holds) k noHold) at q
+-- WHAT IS CHANGED
 
--- DONE
+-- What is shared after an effect does not depend on the activities.
+apart : (acts : List Activity) (e : Shared) (i : ℕ) (x : Effect)
+    → whole (withSpawned (e .activities) (set acts i (x .self)) (x .spawned)) (after e x) ≡ applied (whole acts e) i x
+unfolding applied
+apart acts e i x = go (x .write) refl
+  where
+    go : (w : Write) → x .write ≡ w → whole (withSpawned (e .activities) (set acts i (x .self)) (x .spawned)) (after e x) ≡ applied (whole acts e) i x
+    go keep q = rw q
+    go (make c) q = rw q
+    go (offer n v) q = rw q
+    go (reset n v) q = rw q
 
-module _ {t : List ℕ} {l : Layout} {e : Shared} {i : ℕ} {a : Activity} {command : Command} {next : ℕ} (h : Performing t l (lone e) i a command next) {o : Command} (q : command ≡ o) (r : Change) where
-  -- What was done for the command found is done for the command.
-  pub done-same : Does e r (effectOf (programOf t) (envOf (lone e)) i a o (here (programOf t) (top a) .inner)) → Performed (programOf t) e i a command r
-  unfolding Does Performed
-  done-same d = λ c so. rw q (d c)
+-- Only ASYNC spawns, and whom is known.
+entered : {p : Program} {v : Env} {i : ℕ} {a : Activity} (c : Activity) {command : Command} {x : Effect} {b : Bool} (n : ℕ) (acts : List Activity) → Kind p v i a command x → IsChild i a command c
+    → b ≡ spawns (x .spawned) → cond b (set acts n c) acts ≡ withSpawned n acts (x .spawned)
+unfolding IsChild
+entered c n acts (ends e f s) so q = rw (q, s)
+entered c n acts (meets e f s) so q = rw (q, s)
+entered c n acts (forks b m e f s) so q = rw (q, s, so b m e)
+entered c n acts (opens b e f s) so q = rw (q, s)
+entered c n acts (loops k b e f s) so q = rw (q, s)
+entered c n acts (moves b e f g h k s) so q = rw (q, s)
 
-  module _ (goes : isEnd o ≡ false) where
-    onward : next ≡ nextOffset (programOf t) (top a)
-    onward = h .onward (ap isEnd q ∙ goes)
-
-    pub done-as : PerformsAs e i a o next r → Performed (programOf t) e i a command r
-    unfolding PerformsAs Performed IsChild
-    done-as d = λ c so. rw q (d (programOf t) (here (programOf t) (top a) .inner) c onward (λ b m z. so b m (q ∙ z)))
-
-    pub done : Performs e a o next r → Performed (programOf t) e i a command r
-    unfolding Performs
-    done d = done-as (d i)
-
-    pub done-cell : TouchedBy e a (touch (envOf (lone e) .cell) (untouched a) command) next r
-        → touching (programOf t) a (touch (envOf (lone e) .cell) (untouched a) o) ≡ effectOf (programOf t) (envOf (lone e)) i a o (here (programOf t) (top a) .inner)
-        → Performed (programOf t) e i a command r
-    unfolding TouchedBy
-    done-cell d z = done-same (rw (q, z) at (d (programOf t) onward))
-
--- ATOM with the commands that belong to it.
-pub done-atom : {t : List ℕ} {l : Layout} {e : Shared} {i : ℕ} {a : Activity} {command : Command} {next : ℕ} (h : Performing t l (lone e) i a command next) {k : ℕ} (q : command ≡ Atom k) (r : Change)
-    → TouchedBy e a (touchAll (envOf (lone e) .cell) (untouched a) (here (programOf t) (top a) .inner)) next r → Performed (programOf t) e i a command r
-unfolding TouchedBy effectOf isEnd
-done-atom {t = t} h {k} q r d = done-same h q r (d (programOf t) (h .onward (ap isEnd q)))
+-- The change is the effect's.
+pub altered : {p : Program} {v : Env} {i : ℕ} {e : Shared} {a c own : Activity} {command : Command} {x : Effect} {shared : Shared} {b : Bool} → Kind p v i a command x → IsChild i a command c
+    → own ≡ x .self → shared ≡ after e x → b ≡ spawns (x .spawned) → Alters e c (changing own shared b) x
+unfolding changed
+altered {e = e} {c = c} {x = x} k so o s q =
+    record {
+      state = λ acts j. rw (o, s, entered c (e .activities) (set acts j (x .self)) k so q) (apart acts e j x);
+      number = rw o;
+      spawned = q;
+    }

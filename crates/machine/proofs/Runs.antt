@@ -20,8 +20,9 @@ use Rattle.rules.specs.Demand3.{AtEveryPoint}
 use Rattle.rules.specs.Runs.{runFrom, answersFrom, run, answers}
 use Rattle.rules.proofs.StepLaws.{fit}
 use Rattle.rules.proofs.Demand3.{good-start, good-run, run-start, answers-start, at-every-point}
-use Rattle.machine.specs.Known.{Known}
-use Rattle.machine.specs.Turn.{Fit, Followable, answeredFrom}
+use Rattle.guards.specs.Known.{Known}
+use Rattle.guards.specs.Views.{Fit}
+use Rattle.machine.specs.Turn.{Followable, answeredFrom}
 use Rattle.machine.specs.Ran.{ranOf, answered, Runs}
 
 -- ONE CALL MORE

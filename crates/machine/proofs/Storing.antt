@@ -1,78 +1,50 @@
--- Cells by value follow the definitions' stores.
-use Prim.Native.Nat.{ℕ, zero, suc, _+_, _%_, _≤_, _<_}
+-- The commands of an ATOM, one after another; and the register and the cells after each command.
+use Prim.Native.Nat.{ℕ, zero, suc, _+_, _-_, _≤_, _<_}
 use native.Mathlib.Omega.{arith}
 use native.Mathlib.Numerals.{add-one}
-use mathlib.Core.Path.{_≡_, refl, sym, ap, _∙_}
+use mathlib.Core.Path.{_≡_, refl, sym, ap, _∙_, subst}
 use mathlib.Core.List.{List, [], _∷_, _++_}
 use mathlib.Core.Bool.{Bool, true, false, cond, _&&_}
-use lib.ListN.{length, getD, set, take, length-set}
-use lib.Seq.{getD-set-same, getD-set-other, take-suc, take-all}
-use lib.Dec.{eqb, ltb, leb}
-use borrow.Author.Tests.{eqb-true, eqb-false, ltb-true, leb-true}
+use lib.ListN.{length, getD, take}
+use lib.Seq.{take-suc, take-all}
+use lib.Dec.{ltb, leb}
+use borrow.Author.Tests.{leb-true}
 use Rattle.program.specs.Command.{rows, rowAt, rowOf, held, width}
 use Rattle.program.specs.Bodies.{Program, programOf, from, headOf}
 use Rattle.program.specs.declared.command.Command.{Command}
-use Rattle.program.specs.declared.command.Command.the-variants.{End, Fetch, Store, Add, Atom}
-use Rattle.program.proofs.Shape.{OnCells, Ranged}
+use Rattle.program.specs.declared.command.Command.the-variants.{End, Next, Repeat, Atom}
+use Rattle.program.specs.declared.scan.Layout.{Layout}
+use Rattle.program.proofs.Shape.{OnCells, Ranged, Sound}
 use Rattle.program.proofs.ShapeRows.{held-is, width-is}
 use Rattle.rules.specs.declared.state.Frame.{Frame}
 use Rattle.rules.specs.declared.state.Activity.{Activity}
+use Rattle.rules.specs.declared.state.Status.the-variants.{Ended}
+use Rattle.rules.specs.State.{top, isAtBarrier}
 use Rattle.rules.specs.Tree.{rest, here}
-use Rattle.rules.specs.Effects.{Stored, Touch, cellAfter, withStores, touch, touchAll, untouched}
+use Rattle.rules.specs.Effects.{Touch, withStores, touch, touchAll, untouched, past, pushed, again, popped, stopped, endOf, nextOf, repeatOf, touching, effectOf, envOf}
 use Rattle.rules.proofs.Tests.{and-true}
-use Rattle.machine.specs.Known.{On}
-use Rattle.machine.specs.Cells.{InRange, Agrees, cellIn, Follows, FollowsAll}
-use Rattle.machine.specs.declared.cells.Touched.{Touched}
-use Rattle.machine.proofs.Places.{sound-here}
+use Rattle.parts.specs.declared.shared.Shared.{Shared}
+use Rattle.parts.specs.Shared.{lone}
+use Rattle.effects.specs.Cells.{InRange, Agrees, cellIn, Follows, FollowsAll, FollowsIn}
+use Rattle.effects.specs.declared.cells.Touched.{Touched}
+use Rattle.effects.proofs.Storing.{agrees-first}
+use Rattle.guards.specs.Known.{On}
+use Rattle.guards.specs.Facing.{Facing}
+use Rattle.guards.proofs.Places.{sound-here}
+use Rattle.machine.specs.Perform.{effectHere, Touches}
 
-length-stores : (cells : List ℕ) (stores : List Stored) → length (withStores cells stores) ≡ length cells
-unfolding withStores
-length-stores cells [] = refl
-length-stores cells (x ∷ xs) = length-set (withStores cells xs) (x .cell) (x .value) ∙ length-stores cells xs
+-- STANDING ON A COMMAND
 
--- What a cell holds after stores.
-cell-after : (cells : List ℕ) (stores : List Stored) (d : ℕ) → d < length cells → getD (withStores cells stores) d 0 ≡ cellAfter (cellIn cells) stores d
-unfolding withStores cellAfter
-cell-after cells [] d h = refl
-cell-after cells (x ∷ xs) d h = go (eqb (x .cell) d) refl (cell-after cells xs d h)
-  where
-    go : (b : Bool) → eqb (x .cell) d ≡ b → getD (withStores cells xs) d 0 ≡ cellAfter (cellIn cells) xs d
-        → getD (set (withStores cells xs) (x .cell) (x .value)) d 0 ≡ cond b (x .value) (cellAfter (cellIn cells) xs d)
-    go true e ih =
-        let same = eqb-true (x .cell) d e in
-        let long = length-stores cells xs in
-        rw same (getD-set-same (withStores cells xs) d (x .value) 0 (omega arith))
-    go false e ih = getD-set-other (withStores cells xs) (x .cell) d (x .value) 0 (λ q. eqb-false (x .cell) d e (sym q)) ∙ ih
+module _ {t : List ℕ} {l : Layout} {a : Activity} {command : Command} (h : Facing t l a command) where
+  pub on : On t (top a) command
+  on = let q = h .stack .some in record { scanned = h .known .scanned; placed = h .stack .placed (a .depth - 1) (omega arith); stands = h .stands }
 
--- Before any store.
-pub agrees-first : (cells : List ℕ) (a : Activity) → length cells ≡ 16 → Agrees cells (untouched a) (record { cells = cells; register = a .register })
-unfolding withStores
-agrees-first cells a e = record { sized = e; stored = refl; same = refl }
+  pub sound : Sound (length (programOf t)) (top a .body) (here (programOf t) (top a))
+  sound = sound-here t (h .known .scanned) (top a) (on .placed)
 
--- ONE COMMAND
-
-module _ (t : Touched) {d at : ℕ} (small : d < 16) (e : at ≡ d) where
-  pub follows-fetch : Follows t (Fetch d) (record { cells = t .cells; register = getD (t .cells) at 0 })
-  unfolding Follows touch
-  follows-fetch cells x g =
-      let long = g .sized in
-      record { sized = g .sized; stored = g .stored; same = rw (e, g .stored) (cell-after cells (x .stores) d (omega arith)) }
-
-  pub follows-store : Follows t (Store d) (record { cells = set (t .cells) at (t .register); register = t .register })
-  unfolding Follows touch withStores
-  follows-store cells x g = record { sized = g .sized; stored = rw (e, g .stored, g .same); same = g .same }
-
-  pub follows-add : {v : ℕ} → v ≡ (getD (t .cells) at 0 + t .register) % 4294967296
-      → Follows t (Add d) (record { cells = set (t .cells) at v; register = t .register })
-  unfolding Follows touch withStores
-  follows-add {v} f cells x g =
-      let long = g .sized in
-      let q : v ≡ (cellAfter (cellIn cells) (x .stores) d + x .register) % 4294967296 = f ∙ rw (e, g .stored, g .same, cell-after cells (x .stores) d (omega arith)) in
-      record { sized = g .sized; stored = rw (e, q, g .stored); same = g .same }
-
--- The first operand is below its limit.
-pub first-small : {x n : ℕ} (b : Bool) → ltb x n && b ≡ true → x < n
-first-small {x} {n} b e = ltb-true x n (and-true (ltb x n) b e .0)
+  pub ranged : InRange command
+  unfolding InRange Ranged
+  ranged = rw (h .stands) (sound .ranged)
 
 -- SEVERAL
 
@@ -124,3 +96,51 @@ follows-more t u r cs j h f g cells x a =
 
 pub follows-end : (t r : Touched) (cs : List Command) (j : ℕ) → length cs ≤ j → FollowsAll t (take j cs) r → FollowsAll t cs r
 follows-end t r cs j h f = rw (take-all j cs h) at f
+
+-- ONE STEP
+
+-- END, NEXT and REPEAT leave the register.
+pub end-register : (p : Program) (a : Activity) → a .register ≡ endOf p a .register
+unfolding endOf again popped past
+end-register p a = go (leb (a .depth) 1) (ltb 1 (top a .runs))
+  where
+    go : (x y : Bool) → a .register ≡ cond x (stopped a Ended) (cond y (again a) (popped p a)) .register
+    go true y = refl
+    go false true = refl
+    go false false = refl
+
+pub next-register : (p : Program) (a : Activity) → a .register ≡ nextOf p a (isAtBarrier (a .status)) .register
+unfolding nextOf past
+next-register p a = go (isAtBarrier (a .status))
+  where
+    go : (b : Bool) → a .register ≡ nextOf p a b .register
+    go true = refl
+    go false = refl
+
+pub repeat-register : (p : Program) (a : Activity) (n b : ℕ) → a .register ≡ repeatOf p a n b .register
+unfolding repeatOf past pushed
+repeat-register p a zero b = refl
+repeat-register p a (suc n) b = refl
+
+module _ (p : Program) (e : Shared) (a : Activity) {command : Command} (o : Command) (q : command ≡ o) where
+  -- A command that stores nothing in the cells.
+  pub storeless : (v : ℕ) → ((i : ℕ) → v ≡ effectHere p (lone e) i a o .self .register) → ((i : ℕ) → effectHere p (lone e) i a o .stores ≡ [])
+      → Touches p e a command (record { cells = e .cells; register = v })
+  unfolding withStores
+  storeless v f g = record { register = λ i. rw q (f i); cells = λ i. rw (q, g i) }
+
+  -- A command on the cells.
+  touching-cells : {r : Touched} (x : Touch) → Agrees (e .cells) x r → ((i : ℕ) → effectHere p (lone e) i a o ≡ touching p a x) → Touches p e a command r
+  unfolding past
+  touching-cells x g f = record { register = λ i. rw (q, f i) (g .same); cells = λ i. rw (q, f i) (g .stored) }
+
+  pub touched-cell : {r : Touched} → length (e .cells) ≡ 16 → InRange command → FollowsIn (record { cells = e .cells; register = a .register }) command r
+      → ((i : ℕ) → effectHere p (lone e) i a o ≡ touching p a (touch (cellIn (e .cells)) (untouched a) o)) → Touches p e a command r
+  unfolding FollowsIn Follows
+  touched-cell {r} long h d f =
+      touching-cells (touch (cellIn (e .cells)) (untouched a) o) (subst (λ (c : Command). Agrees (e .cells) (touch (cellIn (e .cells)) (untouched a) c) r) q (d h (e .cells) (untouched a) (agrees-first (e .cells) a long))) f
+
+  pub touched-atom : {r : Touched} → length (e .cells) ≡ 16 → FollowsAll (record { cells = e .cells; register = a .register }) (here p (top a) .inner) r
+      → ((i : ℕ) → effectHere p (lone e) i a o ≡ touching p a (touchAll (cellIn (e .cells)) (untouched a) (here p (top a) .inner))) → Touches p e a command r
+  unfolding FollowsAll
+  touched-atom long d f = touching-cells (touchAll (cellIn (e .cells)) (untouched a) (here p (top a) .inner)) (d (e .cells) (untouched a) (agrees-first (e .cells) a long)) f

@@ -22,14 +22,15 @@ use Rattle.rules.specs.Effects.{Spawned, nobody, one, Effect, withSpawned, effe
 use Rattle.rules.specs.Steps.{base, at, fault, effect, refusal, exceeds, stepped, advance}
 use Rattle.rules.proofs.WellFormedApply.{turn, room}
 use Rattle.rules.proofs.WellFormedFacts.{facts}
-use Rattle.machine.specs.Stack.{Stacked}
+use Rattle.guards.specs.Stack.{Stacked}
 use Rattle.parts.specs.Shared.{whole, lone}
 use Rattle.machine.specs.Change.{Alters, Does, IsChild}
 use Rattle.machine.specs.Perform.{Performing, Performed}
 use Rattle.parts.specs.declared.shared.Shared.{Shared}
 use Rattle.machine.specs.declared.change.Change.{Change}
-use Rattle.machine.specs.Turn.{Fit, Turn}
-use Rattle.machine.proofs.Facing.{stack-of, facing}
+use Rattle.guards.specs.Views.{Fit}
+use Rattle.machine.specs.Turn.{Turn}
+use Rattle.guards.proofs.Facing.{stack-of, facing}
 
 -- NUMBERS
 
@@ -94,20 +95,14 @@ module _ {t : List ℕ} {l : Layout} {s : State} {i : ℕ} {a : Activity} {f : �
     doing = rw (h .own, h .stands, sym (h .met) ∙ z)
 
     -- What the command needs.
-    pub performing : {next : ℕ} → exceeds base (programOf t) s (effect (programOf t) s i) ≡ false → (isEnd command ≡ false → next ≡ nextOffset (programOf t) (top a))
-        → Performing t l s i a command next
-    unfolding fault at
-    performing x on =
-        let g = facing (h .fit) made (turn (programOf t) s i (h .goes) .unended) (h .stands) in
+    performing : exceeds base (programOf t) s (effect (programOf t) s i) ≡ false → Performing t l s i a command
+    performing x =
         record {
           known = h .fit .known;
           below = omega (arith, made, made-few);
           work = h .worked;
-          stack = rw (h .own) (g .stack);
+          stack = turn-stack;
           stands = stands-here;
-          onward = on;
-          bindings = rw (h .own) (g .bindings);
-          faultless = rw (h .own, h .stands) (sym (h .met) ∙ z);
           fits = rw doing at x;
         }
 
@@ -115,22 +110,11 @@ module _ {t : List ℕ} {l : Layout} {s : State} {i : ℕ} {a : Activity} {f : �
 
 module _ {t : List ℕ} {l : Layout} {acts : List Activity} {e : Shared} {i : ℕ} {a : Activity} {f : ℕ} {command : Command} (h : Turn t l (whole acts e) i a f command) where
   -- What a command needs does not depend on the other activities.
-  pub performing-alone : f ≡ 0 → {next : ℕ} → exceeds base (programOf t) (whole acts e) (effect (programOf t) (whole acts e) i) ≡ false
-      → (isEnd command ≡ false → next ≡ nextOffset (programOf t) (top a)) → Performing t l (lone e) i a command next
+  pub performing-alone : f ≡ 0 → exceeds base (programOf t) (whole acts e) (effect (programOf t) (whole acts e) i) ≡ false → Performing t l (lone e) i a command
   unfolding exceeds
-  performing-alone z x on =
-      let g = performing h z x on in
-      record {
-        known = g .known;
-        below = g .below;
-        work = g .work;
-        stack = g .stack;
-        stands = g .stands;
-        onward = g .onward;
-        bindings = g .bindings;
-        faultless = g .faultless;
-        fits = g .fits;
-      }
+  performing-alone z x =
+      let g = performing h z x in
+      record { known = g .known; below = g .below; work = g .work; stack = g .stack; stands = g .stands; fits = g .fits }
 
   -- What was changed is the effect's.
   pub failed-change : (r : Change) (c : Activity) → (f ≡ 0 → ⊥) → Does e r (failing a (Faulted (faultOf f))) → Alters e c r (effect (programOf t) (whole acts e) i)

@@ -1,15 +1,15 @@
 -- What a turn changes of a state, beside the effect of its command.
 use Prim.Native.Nat.{ℕ}
 use mathlib.Core.Path.{_≡_}
-use mathlib.Core.List.{List, []}
-use mathlib.Core.Bool.{Bool, false, cond}
+use mathlib.Core.List.{List}
+use mathlib.Core.Bool.{Bool, cond}
 use lib.ListN.{set}
 use Rattle.program.specs.declared.command.Command.{Command}
 use Rattle.program.specs.declared.command.Command.the-variants.{Async}
 use Rattle.rules.specs.declared.state.Activity.{Activity}
 use Rattle.rules.specs.declared.state.State.{State}
 use Rattle.rules.specs.State.{statusAnswer}
-use Rattle.rules.specs.Effects.{Stored, nobody, keep, Effect, spawning, withStores, child, applied}
+use Rattle.rules.specs.Effects.{Effect, child, applied}
 use Rattle.rules.specs.Steps.{spawns}
 use Rattle.parts.specs.declared.shared.Shared.{Shared}
 use Rattle.parts.specs.Shared.{whole}
@@ -30,18 +30,9 @@ pub record Alters (e : Shared) (c : Activity) (r : Change) (x : Effect) : Type 0
   pub number : r .number ≡ statusAnswer (x .self .status)
   pub spawned : r .spawned ≡ spawns (x .spawned)
 
--- The same of an effect that spawns nobody, of one that spawns, and of one that stores: whichever stores make the cells what they are.
+-- The same of an effect that spawns nobody.
 unfoldable pub Does : Shared → Change → Effect → Type 0
 Does e r x = (c : Activity) → Alters e c r x
-
-unfoldable pub Spawns : Shared → Change → Activity → Type 0
-Spawns e r own = (c : Activity) → Alters e c r (spawning own c)
-
-abbrev pub storing : Activity → List Stored → Effect
-storing a stores = record { self = a; spawned = nobody; clocked = false; write = keep; stores = stores }
-
-unfoldable pub Stores : Shared → Change → Activity → List ℕ → Type 0
-Stores e r own cells = (stores : List Stored) → cells ≡ withStores (e .cells) stores → Does e r (storing own stores)
 
 -- Who is spawned by a command.
 unfoldable pub IsChild : ℕ → Activity → Command → Activity → Type 0

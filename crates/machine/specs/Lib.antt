@@ -1,8 +1,4 @@
-pub mod Known
-pub mod Stack
 pub mod Change
-pub mod Facing
+pub mod Perform
 pub mod Turn
 pub mod Ran
-pub mod Cells
-pub mod Perform

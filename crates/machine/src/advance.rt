@@ -3,47 +3,29 @@ ghost use mathlib.Core.Path.{_≡_};
 ghost use Prim.Native.Nat.{_<_};
 ghost use lib.ListN.{length};
 ghost use Rattle.program.specs.Bodies.{programOf};
-ghost use Rattle.rules.specs.State.{top};
 ghost use Rattle.rules.specs.Steps.{base};
 ghost use Rattle.rules.specs.Runs.{runFrom};
-ghost use Rattle.machine.specs.Known.{On};
-ghost use Rattle.machine.specs.Stack.{Standing};
 ghost use Rattle.machine.specs.Change.{IsChild};
-ghost use Rattle.machine.specs.Turn.{Next, Taking, Taken, Due, Turned, Followable, answeredFrom};
+ghost use Rattle.machine.specs.Turn.{Taking, Taken, Due, Turned, Followable, answeredFrom};
 use super::change::Change;
 use super::change::unmoved;
-use super::effects::child;
-use super::limits::exceeds;
-use super::look::Seen;
-use super::look::look;
 use super::perform::fail;
 use super::perform::perform;
-use super::place::next_offset;
-use super::waiting::waits_at;
+use effects::life::child;
+use guards::limits::exceeds;
+use guards::look::Seen;
+use guards::look::look;
+use guards::waiting::waits_at;
 use parts::shared::Shared;
 use parts::shared::shared_of;
 use parts::shared::whole;
 use program::command::Command;
-use program::command::is_end;
 use program::command::operands;
 use program::command::wide;
 use program::scan::Layout;
 use program::table::Table;
 use rules::state::Activity;
 use rules::state::State;
-
-// The place of the command after the one that an activity stands on; after END there is none.
-fn next_after(table: &[u8], a: Activity, command: Command) -> u16
-    requires { ⌜ Standing a × On (now table) (top a) command ⌝ }
-    ensures { λ r. ⌜ Next (programOf (now (table .entry))) a command r ⌝ }
-{
-    if is_end(command) {
-        return 0;
-    }
-    let at = wide(a.depth) - 1;
-    let f = a.frames[at];
-    next_offset(table, f, command)
-}
 
 // What a step that is not turned down changes.
 fn taken(
@@ -61,8 +43,7 @@ fn taken(
     if fault != 0 {
         return fail(e, a, fault);
     }
-    let next = next_after(table, a, command);
-    perform(table, layout, e, i, a, command, next)
+    perform(table, layout, e, i, a, command)
 }
 
 // A turn of an activity that was spawned: numbers 15 to 17 change nothing.
@@ -99,7 +80,7 @@ fn child_of(i: usize, a: Activity, command: Command) -> Activity
     ensures { λ r. ⌜ IsChild i a command r ⌝ }
 {
     let bytes = operands(command);
-    child(i, a, bytes[0], bytes[1])
+    child(i as u8, a, bytes[0], bytes[1])
 }
 
 // A turn for each byte of the order, from a well-formed state. The number of each answer goes into the buffer.

@@ -1,84 +1,27 @@
-// FETCH, STORE and ADD on the cells by value.
-ghost use Prim.Native.Nat.{_<_};
+// The register and the cells after a command.
 ghost use Rattle.program.specs.Bodies.{programOf};
-ghost use Rattle.program.specs.declared.command.Command.the-variants.{Fetch, Store, Add, Atom};
+ghost use Rattle.program.specs.declared.command.Command.the-variants.{Atom};
 ghost use Rattle.rules.specs.Tree.{here};
-ghost use Rattle.machine.specs.Known.{Known, On};
-ghost use Rattle.machine.specs.Cells.{InRange, Follows, FollowsAll};
+ghost use Rattle.rules.specs.State.{top};
+ghost use Rattle.effects.specs.Cells.{FollowsAll};
+ghost use Rattle.guards.specs.Known.{Known, On};
+ghost use Rattle.guards.specs.Facing.{Facing};
+ghost use Rattle.machine.specs.Perform.{Touches};
+use effects::cells::Touched;
+use effects::cells::touch;
+use effects::share::accumulator_at;
+use effects::share::number_under;
+use parts::shared::Shared;
 use program::command::Command;
 use program::command::wide;
 use program::reading::Reading;
 use program::reading::fetch;
 use program::scan::Layout;
+use rules::state::Activity;
 use rules::state::Frame;
 
-// The cells and an activity's register.
-pub struct Touched {
-    pub cells: [u32; 16],
-    pub register: u32,
-}
-
-// FETCH: the register becomes the cell.
-fn fetched(t: Touched, d: u8) -> Touched
-    requires { ⌜ d < 16 ⌝ }
-    ensures { λ r. ⌜ Follows t (Fetch d) r ⌝ }
-{
-    let at = wide(d);
-    let register = t.cells[at];
-    Touched { register, ..t }
-}
-
-// STORE: the cell becomes the register.
-fn stored(t: Touched, d: u8) -> Touched
-    requires { ⌜ d < 16 ⌝ }
-    ensures { λ r. ⌜ Follows t (Store d) r ⌝ }
-{
-    let at = wide(d);
-    let mut next = t;
-    next.cells[at] = t.register;
-    next
-}
-
-// ADD: the cell becomes the cell plus the register modulo 2^32.
-fn added(t: Touched, d: u8) -> Touched
-    requires { ⌜ d < 16 ⌝ }
-    ensures { λ r. ⌜ Follows t (Add d) r ⌝ }
-{
-    let at = wide(d);
-    let mut next = t;
-    let cell = t.cells[at];
-    next.cells[at] = std::num::wrapping_add_u32(cell, t.register);
-    next
-}
-
-// A command on a cell; any other leaves all as it is.
-pub fn touch(t: Touched, command: Command) -> Touched
-    requires { ⌜ InRange command ⌝ }
-    ensures { λ r. ⌜ Follows t command r ⌝ }
-{
-    match command {
-        Command::End => t,
-        Command::Next => t,
-        Command::Clock(_) => t,
-        Command::Resume(_) => t,
-        Command::Drop(_) => t,
-        Command::Async(_, _) => t,
-        Command::Finish(_) => t,
-        Command::Repeat(_, _) => t,
-        Command::Acc(_, _) => t,
-        Command::Offer(_) => t,
-        Command::Read(_) => t,
-        Command::Reset(_) => t,
-        Command::Put(_) => t,
-        Command::Fetch(d) => fetched(t, d),
-        Command::Store(d) => stored(t, d),
-        Command::Add(d) => added(t, d),
-        Command::Atom(_) => t,
-    }
-}
-
 // The k commands that follow an ATOM, two bytes each, in the slice from the body's first command.
-pub fn touch_all(table: &[u8], layout: Layout, f: Frame, k: u8, t: Touched) -> Touched
+fn touch_all(table: &[u8], layout: Layout, f: Frame, k: u8, t: Touched) -> Touched
     requires { ⌜ Known (now table) layout × On (now table) f (Atom k) ⌝ }
     ensures { λ r. ⌜ FollowsAll t (here (programOf (now (table .entry))) f .inner) r ⌝ }
 {
@@ -97,4 +40,55 @@ pub fn touch_all(table: &[u8], layout: Layout, f: Frame, k: u8, t: Touched) -> T
         j += 1;
     }
     touched
+}
+
+// ATOM: the commands that belong to it.
+fn atom(table: &[u8], layout: Layout, a: Activity, k: u8, t: Touched) -> Touched
+    requires { ⌜ Facing (now table) layout a (Atom k) ⌝ }
+    ensures { λ r. ⌜ FollowsAll t (here (programOf (now (table .entry))) (top a) .inner) r ⌝ }
+{
+    let at = wide(a.depth) - 1;
+    let f = a.frames[at];
+    touch_all(table, layout, f, k, t)
+}
+
+// READ gives the accumulator's value and PUT its operand; FETCH, STORE, ADD and ATOM touch the cells.
+pub fn touched(table: &[u8], layout: Layout, e: Shared, a: Activity, command: Command) -> Touched
+    requires { ⌜ Facing (now table) layout a command ⌝ }
+    ensures { λ r. ⌜ Touches (programOf (now (table .entry))) e a command r ⌝ }
+{
+    let cells = e.cells;
+    let names = a.accumulators;
+    let before = Touched {
+        cells,
+        register: a.register,
+    };
+    match command {
+        Command::End => before,
+        Command::Next => before,
+        Command::Clock(_) => before,
+        Command::Resume(_) => before,
+        Command::Drop(_) => before,
+        Command::Async(_, _) => before,
+        Command::Finish(_) => before,
+        Command::Repeat(_, _) => before,
+        Command::Acc(_, _) => before,
+        Command::Offer(_) => before,
+        Command::Read(n) => {
+            let old = accumulator_at(e, number_under(names, n));
+            Touched {
+                register: old.value,
+                ..before
+            }
+        }
+        Command::Reset(_) => before,
+        Command::Put(v) => Touched {
+            register: v,
+            ..before
+        },
+        Command::Fetch(_) => touch(before, command),
+        Command::Store(_) => touch(before, command),
+        Command::Add(_) => touch(before, command),
+        Command::Atom(k) => atom(table, layout, a, k, before),
+    }
 }

@@ -4,7 +4,7 @@ ghost use Rattle.rules.specs.Steps.{base, start, step, ready, registrations, re
 ghost use Rattle.machine.specs.Ran.{answerBy, Runs};
 use advance::follow;
 use clocks::sheet::sheet_of;
-use look::ready_set;
+use guards::look::ready_set;
 use parts::empty::start_state;
 use parts::empty::zero_state;
 use program::table::read_table;
@@ -17,18 +17,9 @@ use rules::state::State;
 use rules::state::Status;
 use wellformed::check;
 
-mod place; // place.rt: the command that a frame stands on, and the place after it
-mod stack; // stack.rt: an activity's stack of bodies
-mod cells; // cells.rt: FETCH, STORE and ADD on the cells by value
+mod cells; // cells.rt: the register and the cells after a command
 mod change; // change.rt: what a turn changes
-mod effects; // effects.rt: what a command does to its activity
-mod commands; // commands.rt: what a command changes
 mod perform; // perform.rt: a step that goes on, and a step that faults
-mod inside; // inside.rt: whether someone inside a finish has not ended
-mod faults; // faults.rt: the fault that a command meets
-mod waiting; // waiting.rt: whether an activity waits
-mod look; // look.rt: number 15, the fault and the command; the ready set
-mod limits; // limits.rt: number 17
 mod advance; // advance.rt: turns, one after another
 
 // The start state of a table: numbers 1 to 12.

@@ -1,39 +1,33 @@
 // A step that goes on, and a step that faults.
 ghost use mathlib.Core.Path.{_≡_};
+ghost use Prim.Native.Nat.{_<_};
 ghost use Rattle.program.specs.Bodies.{programOf};
 ghost use Rattle.rules.specs.declared.state.Status.the-variants.{Faulted};
 ghost use Rattle.rules.specs.State.{faultOf};
 ghost use Rattle.rules.specs.Effects.{failing};
-ghost use Prim.Native.Nat.{_<_};
 ghost use Rattle.parts.specs.Shared.{lone};
 ghost use Rattle.machine.specs.Change.{Does};
 ghost use Rattle.machine.specs.Perform.{Performing, Performed};
+use super::cells::touched;
 use super::change::Change;
-use super::change::alone;
-use super::commands::accumulate;
-use super::commands::atom;
-use super::commands::cell;
-use super::commands::clock;
-use super::commands::finish;
-use super::commands::leave;
-use super::commands::meet;
-use super::commands::offer;
-use super::commands::put;
-use super::commands::read;
-use super::commands::repeat;
-use super::commands::reset;
-use super::commands::resume;
-use super::commands::spawn;
-use super::stack::end_of;
-use super::stack::stopped;
+use super::change::changing;
+use effects::life::stopped;
+use effects::own_after;
+use effects::share::counted;
+use effects::share::shared_after;
+use guards::onward::next_after;
 use parts::numbers::fault_of;
 use parts::shared::Shared;
 use program::command::Command;
+use program::command::opcode;
 use program::scan::Layout;
 use rules::state::Activity;
 use rules::state::Status;
 
-// The effect of a command that meets no fault.
+// The command byte of ASYNC, which makes an activity.
+const ASYNC: usize = 5;
+
+// The effect of a command that meets no fault. Whom ASYNC spawns, `child_of` of advance.rt says.
 pub fn perform(
     table: &[u8],
     layout: Layout,
@@ -41,30 +35,25 @@ pub fn perform(
     i: usize,
     a: Activity,
     command: Command,
-    next: u16,
 ) -> Change
-    requires { ⌜ Performing (now table) layout (lone e) i a command next ⌝ }
+    requires { ⌜ Performing (now table) layout (lone e) i a command ⌝ }
     ensures { λ r. ⌜ Performed (programOf (now (table .entry))) e i a command r ⌝ }
 {
-    match command {
-        Command::End => alone(e, end_of(table, layout, a)),
-        Command::Next => meet(e, a, next),
-        Command::Clock(c) => clock(e, a, c, next),
-        Command::Resume(c) => resume(e, a, c, next),
-        Command::Drop(c) => leave(e, a, c, next),
-        Command::Async(_, _) => spawn(e, a, next),
-        Command::Finish(b) => finish(e, a, b),
-        Command::Repeat(n, b) => repeat(e, a, n, b, next),
-        Command::Acc(n, o) => accumulate(e, i, a, n, o, next),
-        Command::Offer(n) => offer(e, a, n, next),
-        Command::Read(n) => read(e, a, n, next),
-        Command::Reset(n) => reset(e, a, n, next),
-        Command::Put(v) => put(e, a, v, next),
-        Command::Fetch(_) => cell(e, a, command, next),
-        Command::Store(_) => cell(e, a, command, next),
-        Command::Add(_) => cell(e, a, command, next),
-        Command::Atom(k) => atom(table, layout, e, a, k, next),
-    }
+    let next = next_after(table, layout, a, command);
+    let t = touched(table, layout, e, a, command);
+    let own = own_after(
+        a,
+        command,
+        next,
+        t.register,
+        e.activities,
+        e.clocks,
+        e.accumulators,
+    );
+    let cells = t.cells;
+    let names = a.accumulators;
+    let shared = shared_after(e, i as u8, names, a.register, command, cells);
+    changing(own, shared, opcode(command) == ASYNC)
 }
 
 // A fault ends the activity.
@@ -72,5 +61,6 @@ pub fn fail(e: Shared, a: Activity, fault: u8) -> Change
     requires { ⌜ e .steps < 65535 ⌝ }
     ensures { λ r. ⌜ Does e r (failing a (Faulted (faultOf fault))) ⌝ }
 {
-    alone(e, stopped(a, Status::Faulted(fault_of(fault))))
+    let own = stopped(a, Status::Faulted(fault_of(fault)));
+    changing(own, counted(e), false)
 }

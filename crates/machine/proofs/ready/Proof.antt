@@ -11,10 +11,14 @@ returns : tie.Need-returns
 returns c = let s = c .before .before .before .args in ready-unfit (s .table .now) (s .s) (c .before .check .ensures .0) (c .if1 .taken)
 
 ready-set-requires : tie.Need-ready-set-requires
-ready-set-requires c κs = let s = c .before .before .before .before .before .args in let k = c .before .before .before .check .ensures in fit-checked (s .table .now) (s .s) (k .0) (c .before .before .if1 .left) (k .1)
+ready-set-requires c κs = search needs
 
 returns-2 : tie.Need-returns-2
-returns-2 c = let s = c .before .before .before .before .before .before .args in ready-fit (s .table .now) (s .s) (c .before .before .before .before .check .ensures .0) (c .before .before .before .if1 .left) (c .ready-set .ensures)
+returns-2 c =
+    let s = c .before .before .before .before .before .before .args in
+    let k = c .before .before .before .before .check .ensures in
+    let z = c .before .before .before .if1 .left in
+    ready-fit (s .table .now) (s .s) (k .0) z (c .ready-set .ensures (fit-checked (s .table .now) (s .s) (k .0) z (k .1)))
 
 pub ready-spec : {M : Type 1} → statement M
 ready-spec =

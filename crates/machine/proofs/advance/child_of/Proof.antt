@@ -8,6 +8,9 @@ use Rattle.machine.proofs.advance.child_of.Tie as tie
 operands-requires : tie.Need-operands-requires
 operands-requires c κs = search needs
 
+cast-child : tie.Need-cast-child
+cast-child c = search needs
+
 array-read-child : tie.Need-array-read-child
 array-read-child c = search needs
 
@@ -24,4 +27,4 @@ returns c = λ b m e. c .child .ensures ∙ rw (c .before .operands .ensures, e)
 pub child-of-spec : {M : Type 1} → statement M
 child-of-spec =
     tie.close
-    (tie.spec operands-requires array-read-child array-read-child-2 child-requires returns)
+    (tie.spec operands-requires cast-child array-read-child array-read-child-2 child-requires returns)

@@ -3,6 +3,7 @@ use Prim.Native.Nat.{_-_, _<_}
 use native.Mathlib.Omega.{arith}
 use mathlib.Core.Path.{_≡_, refl, sym, ap, _∙_, subst}
 use mathlib.Core.Logic.{⊎-elim}
+use mathlib.Core.Bool.{true}
 use lib.ListN.{length}
 use Rattle.program.specs.Bodies.{programOf}
 use Rattle.rules.specs.declared.answer.Answer.the-variants.{Refused}
@@ -11,11 +12,15 @@ use Rattle.rules.specs.State.{answerNumber, act}
 use Rattle.rules.specs.Steps.{base, stepped, advance}
 use Rattle.rules.specs.Runs.{runFrom}
 use Rattle.parts.specs.Shared.{whole}
-use Rattle.machine.specs.Turn.{Fit, DueAt, Turned, Followable, answeredFrom}
+use Rattle.rules.specs.declared.state.State.{State}
+use Rattle.guards.specs.Views.{Fit, Sees}
+use Rattle.guards.specs.Facing.{Placed}
+use Rattle.machine.specs.Turn.{DueAt, Turned, Followable, answeredFrom}
 use Rattle.parts.specs.declared.shared.Shared.{Shared}
-use Rattle.machine.proofs.Facing.{able, rooted, placed, unspawned}
+use Rattle.guards.proofs.Facing.{able, rooted, placed, unspawned}
 use Rattle.machine.proofs.Turns.{turned-down}
-use Rattle.machine.proofs.Dues.{wait-asked, wait-unasked, turn-spawned, turn-alone}
+use Rattle.guards.proofs.Views.{wait-asked, wait-unasked}
+use Rattle.machine.proofs.Dues.{turn-spawned, turn-alone}
 use Rattle.machine.proofs.Runs.{Under, under-start, fit-here, under-advance, under-end}
 use Rattle.machine.proofs.advance.follow.Statement.{statement}
 use Rattle.machine.proofs.advance.follow.Tie as tie
@@ -54,7 +59,19 @@ made c =
     let l = c .if1 .taken in
     (omega arith, omega arith)
 
--- It was looked at, and asked whether it waits.
+-- It was looked at.
+seen-here : (c : tie.After-look Inv-loop μ-loop)
+    → Sees (programOf (start (at (c .before .before)) .args .table .now)) (at (c .before .before) .loop .shared) (c .before .before .before .before .wide .result)
+    (act (whole (at (c .before .before) .loop .acts) (at (c .before .before) .loop .shared)) (c .before .before .before .before .wide .result)) (c .look .result)
+seen-here c = c .look .ensures (able (fitted (c .before .before)) (made (c .before .before) .0))
+
+-- Whom it waits for can be asked.
+placed-here : (c : tie.After-look Inv-loop μ-loop) → c .look .result .asks ≡ true → {s : State} → s ≡ whole (at (c .before .before) .loop .acts) (at (c .before .before) .loop .shared)
+    → Placed (start (at (c .before .before)) .args .table .now) (start (at (c .before .before)) .args .known .layout) s
+    (act (whole (at (c .before .before) .loop .acts) (at (c .before .before) .loop .shared)) (c .before .before .before .before .wide .result))
+placed-here c t e = rw e (placed (fitted (c .before .before)) (made (c .before .before) .0) (seen-here c .asking t .0))
+
+-- It was asked whether it waits.
 due : (c : tie.Joined2 Inv-loop μ-loop)
     → DueAt (start (at (c .before .before .before)) .args .table .now) (start (at (c .before .before .before)) .args .known .layout) (start (at (c .before .before .before)) .args .known .work)
     (at (c .before .before .before) .loop .shared) (c .before .before .before .before .before .wide .result)
@@ -63,7 +80,7 @@ due : (c : tie.Joined2 Inv-loop μ-loop)
 due c =
     let k = c .before .before .before in
     let f = followable (at k) in
-    let s = c .before .look .ensures in
+    let s = seen-here (c .before) in
     record {
       fit = fitted k;
       counted = f .counted;
@@ -73,7 +90,7 @@ due c =
             made = made k .0;
             own = refl;
             sees = s;
-            waited = ⊎-elim (λ w. wait-asked _ _ _ (w .1 .ensures) (s .command (s .asking (w .0 .taken) .0)) (w .0 .taken) (w .3 ∙ w .2 .ensures)) (λ w. wait-unasked _ (w .0 .left) (w .1)) (c .if2 .came);
+            waited = ⊎-elim (λ w. wait-asked _ _ _ (w .1 .ensures) (s .command (s .asking (w .0 .taken) .0)) (w .0 .taken) (w .3 ∙ w .2 .ensures (placed-here (c .before) (w .0 .taken) (w .1 .ensures)))) (λ w. wait-unasked _ (w .0 .left) (w .1)) (c .if2 .came);
           };
     }
 
@@ -99,15 +116,13 @@ array-copy-out-a : tie.Need-array-copy-out-a Inv-loop μ-loop
 array-copy-out-a c = made c .1
 
 look-requires : tie.Need-look-requires Inv-loop μ-loop
-look-requires c κs = able (fitted (c .before)) (made (c .before) .0)
+look-requires c κs = tt
 
 whole-requires : tie.Need-whole-requires Inv-loop μ-loop
 whole-requires c κs = tt
 
 waits-at-requires : tie.Need-waits-at-requires Inv-loop μ-loop
-waits-at-requires c κs =
-    let k = c .before .before .before .before in
-    rw (c .whole .ensures) (placed (fitted k) (made k .0) (c .before .before .look .ensures .asking (c .before .if2 .taken) .0))
+waits-at-requires c κs = tt
 
 turn-requires : tie.Need-turn-requires Inv-loop μ-loop
 turn-requires c κs = record { acts = at (c .before .before .before) .loop .acts; due = due c }

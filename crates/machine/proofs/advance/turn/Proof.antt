@@ -4,7 +4,8 @@ use mathlib.Core.Path.{refl, sym, _∙_}
 use Rattle.rules.specs.Steps.{effect, exceeds}
 use Rattle.machine.specs.Turn.{Taken, Turned}
 use Rattle.machine.proofs.Turns.{turned-down, overflows}
-use Rattle.machine.proofs.Dues.{ended-number, wait-number, goes-here, turning, over-here, stays, goes-on}
+use Rattle.guards.proofs.Views.{ended-number, wait-number, goes-here}
+use Rattle.machine.proofs.Dues.{turning, over-here, stays, goes-on}
 use borrow.Author.Needs.{needs}
 use Rattle.machine.proofs.advance.turn.Statement.{statement}
 use Rattle.machine.proofs.advance.turn.Tie as tie

@@ -13,8 +13,8 @@ use Rattle.program.specs.declared.command.Command.the-variants.{End}
 use Rattle.program.specs.declared.reading.Reading.the-variants.{Whole}
 use Rattle.program.proofs.RangeLaws.{tail-part}
 use Rattle.rules.specs.Tree.{here}
-use Rattle.machine.specs.Cells.{FollowsAll}
-use Rattle.machine.proofs.Places.{body-small, offset-small, code-inside, read-inner, not-whole}
+use Rattle.effects.specs.Cells.{FollowsIn, FollowsAll}
+use Rattle.guards.proofs.Places.{body-small, offset-small, code-inside, read-inner, not-whole}
 use Rattle.machine.proofs.Storing.{innerAt, inner-here, inner-length, inner-ranged, atom-width, atom-few, follows-none, follows-more, follows-end}
 use Rattle.machine.proofs.cells.touch_all.Statement.{statement}
 use Rattle.machine.proofs.cells.touch_all.Tie as tie
@@ -120,9 +120,7 @@ returns : tie.Need-returns Inv-loop μ-loop
 returns c = absurd (not-whole (c .before .fetch .result) (c .match .keys2) (read-there (c .before)))
 
 touch-requires : tie.Need-touch-requires Inv-loop μ-loop
-touch-requires c κs =
-    let k = c .before .before .before in
-    rw (command-is c) (inner-ranged _ _ (start k .pre .1) (at k .loop .j) (turn k))
+touch-requires c κs = tt
 
 add-j : tie.Need-add-j Inv-loop μ-loop
 add-j c = let q = few (c .before .before .before .before .before .before .before .before .before .before .before .before .before) in omega arith
@@ -131,12 +129,13 @@ loop-less : tie.Need-loop-less Inv-loop μ-loop
 loop-less c = let q = turn (c .before .before .before .before) in omega arith
 
 loop-again : tie.Need-loop-again Inv-loop μ-loop
+unfolding FollowsIn
 loop-again c =
     let k = c .before .before .before .before in
     let s = start k in
     let e = inner-here (programOf (s .args .table .now)) (s .args .f) in
     let q = turn k in
-    let done = follows-more _ _ _ (inner s) (at k .loop .j) (turn-inner k) (rw (← e) at (at k .loop .inv .2)) (rw (command-is (c .before)) at (c .touch .ensures)) in
+    let done = follows-more _ _ _ (inner s) (at k .loop .j) (turn-inner k) (rw (← e) at (at k .loop .inv .2)) (rw (command-is (c .before)) at (c .touch .ensures) (inner-ranged _ _ (s .pre .1) (at k .loop .j) (turn k))) in
     (omega arith, at k .loop .inv .1, rw e at done)
 
 returns-2 : tie.Need-returns-2 Inv-loop μ-loop

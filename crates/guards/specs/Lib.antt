@@ -1,0 +1,5 @@
+pub mod Known
+pub mod Stack
+pub mod Facing
+pub mod Views
+pub mod Exceeding
