@@ -3,3 +3,4 @@ pub mod Becomes
 pub mod Own
 pub mod Cells
 pub mod Share
+pub mod Accumulators

@@ -9,7 +9,8 @@ mod stack; // stack.rt: an activity's stack of bodies
 mod own; // own.rt: an activity's clocks, names and register
 mod after; // after.rt: an arm for each command
 pub mod cells; // cells.rt: FETCH, STORE and ADD on the cells by value
-pub mod share; // share.rt: what a command does to what is shared
+pub mod share; // share.rt: what a command does to the counts and to the cells
+pub mod accumulators; // accumulators.rt: what a command does to the accumulators
 
 // The activity after its command. It goes on at `next`: the place after the command, and for END of a body on top of another the place after the
 // command below. Its register becomes `register`; `activities`, `clocks` and `accumulators` are how many there are. Without a stack to go on with it stays.

@@ -1,44 +1,7 @@
-// What a command does to what is shared: the counts, the accumulators and the cells.
-ghost use mathlib.Core.Path.{_≡_};
-ghost use Prim.Native.Nat.{_-_, _<_};
-ghost use lib.ListN.{getD};
-ghost use Rattle.rules.specs.State.{accumulator};
-ghost use Rattle.parts.specs.Shared.{lone};
-ghost use Rattle.effects.specs.Share.{Counts, Spawns, Clocks, Makes, valued, offered, SharedAfter};
-use parts::empty::no_accumulator;
-use parts::numbers::operator_of;
-use parts::reduction::new_accumulator;
-use parts::reduction::reduce;
-use parts::reduction::with_value;
+// What a command does to the counts and to the cells.
+ghost use Rattle.effects.specs.Share.{Counts, Spawns, Clocks, Makes, SharedAfter};
 use parts::shared::Shared;
 use program::command::Command;
-use program::command::wide;
-use rules::state::Accumulator;
-
-// The number of the accumulator under a name, 0 where none is bound.
-pub fn number_under(names: [u8; 8], n: u8) -> usize
-    ensures { λ r. ⌜ r ≡ getD names n 0 - 1 ⌝ }
-{
-    let at = wide(n);
-    if 8 <= at {
-        return 0;
-    }
-    let entry = wide(names[at]);
-    if entry == 0 {
-        return 0;
-    }
-    entry - 1
-}
-
-// The accumulator of a number, all 0 where there is none.
-pub fn accumulator_at(e: Shared, number: usize) -> Accumulator
-    ensures { λ r. ⌜ r ≡ accumulator (lone e) number ⌝ }
-{
-    if 16 <= number {
-        return no_accumulator();
-    }
-    e.accs[number]
-}
 
 // One more step is taken.
 pub fn counted(e: Shared) -> Shared
@@ -77,51 +40,20 @@ fn clocking(e: Shared) -> Shared
 }
 
 // One more accumulator.
-fn making(e: Shared, accumulator: Accumulator) -> Shared
-    ensures { λ r. ⌜ Makes e accumulator r ⌝ }
+fn making(e: Shared) -> Shared
+    ensures { λ r. ⌜ Makes e r ⌝ }
 {
     if 16 <= e.accumulators {
         return e;
     }
-    let at = wide(e.accumulators);
     let mut next = e;
-    next.accs[at] = accumulator;
     next.accumulators = e.accumulators + 1;
     next
 }
 
-// An accumulator with another value.
-fn valued(e: Shared, number: usize, value: u32) -> Shared
-    ensures { λ r. ⌜ r ≡ valued e number value ⌝ }
-{
-    if 16 <= number {
-        return e;
-    }
-    let old = e.accs[number];
-    let mut next = e;
-    next.accs[number] = with_value(old, value);
-    next
-}
-
-// A value is reduced into an accumulator.
-fn offered(e: Shared, number: usize, value: u32) -> Shared
-    ensures { λ r. ⌜ r ≡ offered e number value ⌝ }
-{
-    let old = accumulator_at(e, number);
-    let operator = old.operator;
-    valued(e, number, reduce(operator, old.value, value))
-}
-
-// What is shared after a command of activity i that has these accumulator names and this register, where the cells after it are known.
-pub fn shared_after(
-    e: Shared,
-    i: u8,
-    names: [u8; 8],
-    register: u32,
-    command: Command,
-    cells: [u32; 16],
-) -> Shared
-    ensures { λ r. ⌜ SharedAfter e i names register command cells r ⌝ }
+// The counts and the cells after a command, where the cells after it are known.
+pub fn shared_after(e: Shared, command: Command, cells: [u32; 16]) -> Shared
+    ensures { λ r. ⌜ SharedAfter e command cells r ⌝ }
 {
     let next = counted(e);
     match command {
@@ -133,10 +65,10 @@ pub fn shared_after(
         Command::Async(_, _) => spawning(next),
         Command::Finish(_) => next,
         Command::Repeat(_, _) => next,
-        Command::Acc(_, o) => making(next, new_accumulator(i, operator_of(o))),
-        Command::Offer(n) => offered(next, number_under(names, n), register),
+        Command::Acc(_, _) => making(next),
+        Command::Offer(_) => next,
         Command::Read(_) => next,
-        Command::Reset(n) => valued(next, number_under(names, n), register),
+        Command::Reset(_) => next,
         Command::Put(_) => next,
         Command::Fetch(_) => Shared { cells, ..next },
         Command::Store(_) => Shared { cells, ..next },

@@ -32,7 +32,7 @@ use Rattle.rules.proofs.WellFormedFacts.{Facts}
 use Rattle.rules.proofs.Shapes.{Replaced, dropped, resumed, created, Reheld, kept, replaced, Kind, ends, meets, forks, opens, loops, moves, kind, isNext}
 use Rattle.clocks.proofs.Searches.{both}
 use Rattle.guards.proofs.Facing.{some-alike}
-use Rattle.guards.specs.Exceeding.{overfull, isLast, overtakes, exceedsAt}
+use Rattle.guards.specs.Exceeding.{overfull, isLast, someLast, overtakes, exceedsAt}
 
 -- WHAT IS MADE
 
@@ -146,7 +146,7 @@ raised h l = go (isHeld (h .registration))
 -- Phase 65,536 is needed by the effect exactly where it is by the holds.
 phases : {p : Program} {e : Env} {i : ℕ} {a : Activity} {c : Command} {x : Effect} → Kind p e i a c x → (isAtBarrier (a .status) ≡ true → opcode c ≡ 1)
     → Low (a .holds) → someBelow 8 (λ k. ltb 65535 (hold (x .self) k .phase)) ≡ overtakes a
-unfolding overtakes Low
+unfolding overtakes someLast Low
 phases {p} {e} {i} {a} {c} {x} kd onNext l = go (decide (isAtBarrier (a .status)))
   where
     arrived : Kind p e i a c x → opcode c ≡ 1 → x .self ≡ nextOf p a (isAtBarrier (a .status))

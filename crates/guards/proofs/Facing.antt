@@ -4,17 +4,18 @@ use native.Mathlib.Omega.{arith}
 use mathlib.Core.Path.{_≡_, refl, sym, ap, _∙_}
 use mathlib.Core.List.{List}
 use mathlib.Core.Bool.{Bool, true, false, cond, _&&_}
+use lib.ListN.{getD}
 use lib.Dec.{eqb}
 use borrow.Author.Tests.{lt-ltb, le-ltb, eq-eqb, ne-eqb}
 use Rattle.program.specs.Command.{isEnd}
 use Rattle.program.specs.Bodies.{Program, programOf}
 use Rattle.program.specs.declared.command.Command.{Command}
-use Rattle.program.specs.declared.scan.Layout.{Layout}
 use Rattle.rules.specs.declared.state.Frame.{Frame}
+use Rattle.rules.specs.declared.state.Accumulator.{Accumulator}
 use Rattle.rules.specs.declared.state.Activity.{Activity}
 use Rattle.rules.specs.declared.state.State.{State}
 use Rattle.rules.specs.Search.{someBelow}
-use Rattle.rules.specs.State.{act, frame, top, bound, accumulator, isEnded}
+use Rattle.rules.specs.State.{act, frame, top, bound, accumulator, noAccumulator, isEnded}
 use Rattle.rules.specs.Clocks.{holdsSome}
 use Rattle.rules.specs.Tree.{here, nextOffset}
 use Rattle.rules.specs.WellFormed.{isPlaced}
@@ -34,35 +35,35 @@ use Rattle.guards.proofs.Stacks.{stacked}
 
 -- WHERE AN ACTIVITY STANDS
 
-module _ {t : List ℕ} {l : Layout} where
-  pub firm-able : {a : Activity} → Able t l a → isEnded (a .status) ≡ false → Firm t l a
+module _ {t : List ℕ} {starts : List ℕ} where
+  pub firm-able : {a : Activity} → Able t starts a → isEnded (a .status) ≡ false → Firm t starts a
   firm-able h r = record { known = h .known; stack = h .stack r }
 
-  pub firm-facing : {a : Activity} {command : Command} → Facing t l a command → Firm t l a
+  pub firm-facing : {a : Activity} {command : Command} → Facing t starts a command → Firm t starts a
   firm-facing h = record { known = h .known; stack = h .stack }
 
-  pub firm-placed : {s : State} {a : Activity} → Placed t l s a → Firm t l a
+  pub firm-placed : {s : State} {a : Activity} → Placed t starts s a → Firm t starts a
   firm-placed h = record { known = h .known; stack = h .stack }
 
 -- The command read at the top frame.
-pub top-stands : {t : List ℕ} {l : Layout} {a : Activity} {f : Frame} {command : Command} → Firm t l a → f ≡ top a
+pub top-stands : {t : List ℕ} {starts : List ℕ} {a : Activity} {f : Frame} {command : Command} → Firm t starts a → f ≡ top a
     → (isPlaced (programOf t) f ≡ true → command ≡ here (programOf t) f .command) → command ≡ here (programOf t) (top a) .command
-top-stands {t} {l} {a} {f} h e read =
+top-stands {t} {starts} {a} {f} h e read =
     let some = h .stack .some in
     read (rw e (h .stack .placed (a .depth - 1) (omega arith))) ∙ rw e
 
 -- The place after the command of the top frame, and after that of the one below.
-pub past-top : {t : List ℕ} {l : Layout} {a : Activity} {f : Frame} {command : Command} {next : ℕ} → Facing t l a command → isEnd command ≡ false → f ≡ top a
+pub past-top : {t : List ℕ} {starts : List ℕ} {a : Activity} {f : Frame} {command : Command} {next : ℕ} → Facing t starts a command → isEnd command ≡ false → f ≡ top a
     → Onward f command next → next ≡ nextOffset (programOf t) (top a)
 unfolding Onward
-past-top {t} {l} {a} h goes e on =
+past-top {t} {starts} {a} h goes e on =
     let some = h .stack .some in
     on t (record { scanned = h .known .scanned; placed = rw e (h .stack .placed (a .depth - 1) (omega arith)); stands = rw e (h .stands) }) goes ∙ rw e
 
-pub past-below : {t : List ℕ} {l : Layout} {a : Activity} {f : Frame} {command : Command} {next : ℕ} → Firm t l a → 1 < a .depth → f ≡ frame a (a .depth - 2)
+pub past-below : {t : List ℕ} {starts : List ℕ} {a : Activity} {f : Frame} {command : Command} {next : ℕ} → Firm t starts a → 1 < a .depth → f ≡ frame a (a .depth - 2)
     → (isPlaced (programOf t) f ≡ true → command ≡ here (programOf t) f .command) → Onward f command next → next ≡ nextOffset (programOf t) (frame a (a .depth - 2))
 unfolding Onward
-past-below {t} {l} {a} {f} h deep e read on =
+past-below {t} {starts} {a} {f} h deep e read on =
     let set : isPlaced (programOf t) f ≡ true = rw e (h .stack .placed (a .depth - 2) (omega arith)) in
     let goes : isEnd (here (programOf t) f .command) ≡ false = rw e (h .stack .goes (a .depth - 2) (omega arith)) in
     on t (record { scanned = h .known .scanned; placed = set; stands = read set }) (ap isEnd (read set) ∙ goes) ∙ rw e
@@ -70,12 +71,17 @@ past-below {t} {l} {a} {f} h deep e read on =
 -- FAULTS
 
 -- What stands under a name, as it was read.
-module _ (a : Activity) (n : ℕ) {m : ℕ} (entry : m ≡ bound a n) where
-  pub unbound-name : m ≡ 0 → eqb (bound a n) 0 ≡ true
-  unbound-name z = eq-eqb (bound a n) 0 (sym entry ∙ z)
+module _ (names : List ℕ) (n : ℕ) {m : ℕ} (entry : m ≡ getD names n 0) where
+  pub unbound-name : m ≡ 0 → eqb (getD names n 0) 0 ≡ true
+  unbound-name z = eq-eqb (getD names n 0) 0 (sym entry ∙ z)
 
-  pub bound-name : (m ≡ 0 → ⊥) → eqb (bound a n) 0 ≡ false
-  bound-name h = ne-eqb (bound a n) 0 (λ z. h (entry ∙ z))
+  pub bound-name : (m ≡ 0 → ⊥) → eqb (getD names n 0) 0 ≡ false
+  bound-name h = ne-eqb (getD names n 0) 0 (λ z. h (entry ∙ z))
+
+-- The owner of an accumulator, as it was read.
+pub owner-read : (s : State) {accs : List Accumulator} {x : Accumulator} (n : ℕ) {o : ℕ} → accs ≡ s .accs → x ≡ getD accs n noAccumulator → o ≡ x .owner
+    → o ≡ accumulator s n .owner
+owner-read s n q e h = h ∙ rw (e, q)
 
 -- F6, F7 or no fault, where something stands under the name and the accumulator's owner is o.
 module _ (s : State) (i : ℕ) (a : Activity) (n : ℕ) {m o : ℕ} (entry : m ≡ bound a n) (some : m ≡ 0 → ⊥) (owner : o ≡ accumulator s (m - 1) .owner) where
@@ -84,7 +90,7 @@ module _ (s : State) (i : ℕ) (a : Activity) (n : ℕ) {m o : ℕ} (entry : m �
 
   pub others : (o ≡ i → ⊥) → 6 ≡ readFault (envOf s) i a n
   unfolding readFault
-  others h = rw (bound-name a n entry some, owner-is, ne-eqb o i h)
+  others h = rw (bound-name (a .accumulators) n entry some, owner-is, ne-eqb o i h)
 
   module _ (mine : o ≡ i) where
     own-is : eqb (accumulator s (numberUnder a n) .owner) i ≡ true
@@ -92,11 +98,11 @@ module _ (s : State) (i : ℕ) (a : Activity) (n : ℕ) {m o : ℕ} (entry : m �
 
     pub while-held : holdsSome a ≡ true → 7 ≡ readFault (envOf s) i a n
     unfolding readFault
-    while-held h = rw (bound-name a n entry some, own-is, h)
+    while-held h = rw (bound-name (a .accumulators) n entry some, own-is, h)
 
     pub may-read : holdsSome a ≡ false → 0 ≡ readFault (envOf s) i a n
     unfolding readFault
-    may-read h = rw (bound-name a n entry some, own-is, h)
+    may-read h = rw (bound-name (a .accumulators) n entry some, own-is, h)
 
 -- WAITING
 
@@ -120,7 +126,7 @@ module _ (n : ℕ) (f g : ℕ → Bool) {b r : Bool} (shared : (x : ℕ) → f x
 
 -- A WELL-FORMED STATE
 
-module _ {t : List ℕ} {l : Layout} {s : State} (fit : Fit t l s) where
+module _ {t : List ℕ} {starts : List ℕ} {s : State} (fit : Fit t starts s) where
   fact : Facts 65535 (programOf t) s
   fact = facts 65535 (programOf t) s (fit .formed)
 
@@ -137,16 +143,16 @@ module _ {t : List ℕ} {l : Layout} {s : State} (fit : Fit t l s) where
     stack-of = stacked (programOf t) (s .activities) (act s i) (stack-back (programOf t) (s .activities) (act s i) (own .stack)) (own .bodied runs)
 
     -- It stands on its command.
-    pub facing : {command : Command} → command ≡ here (programOf t) (top (act s i)) .command → Facing t l (act s i) command
+    pub facing : {command : Command} → command ≡ here (programOf t) (top (act s i)) .command → Facing t starts (act s i) command
     facing e = record { known = fit .known; stack = stack-of; stands = e }
 
     -- It can be asked whether it waits.
-    pub placed : Placed t l s (act s i)
+    pub placed : Placed t starts s (act s i)
     placed = record { known = fit .known; stack = stack-of; rooted = rooted }
 
 -- An activity that was spawned, ended or not, and its accumulator names: there is room for the accumulators.
-module _ {t : List ℕ} {l : Layout} {s : State} (fit : Fit t l s) {i : ℕ} (made : i < s .activities) where
-  pub able : Able t l (act s i)
+module _ {t : List ℕ} {starts : List ℕ} {s : State} (fit : Fit t starts s) {i : ℕ} (made : i < s .activities) where
+  pub able : Able t starts (act s i)
   able = record { known = fit .known; stack = stack-of fit made }
 
   pub bindings : (n : ℕ) → n < 8 → bound (act s i) n ≤ 16

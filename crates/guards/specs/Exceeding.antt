@@ -1,6 +1,8 @@
 -- Number 17 as the code tests it: by the command's byte, and by the holds of who is at a meeting.
 use Prim.Native.Nat.{ℕ}
 use mathlib.Core.Bool.{Bool, _||_, _&&_}
+use mathlib.Core.List.{List}
+use lib.ListN.{getD}
 use lib.Dec.{leb, eqb}
 use Rattle.program.specs.Command.{opcode}
 use Rattle.program.specs.declared.command.Command.{Command}
@@ -8,7 +10,7 @@ use Rattle.rules.specs.declared.state.Hold.{Hold}
 use Rattle.rules.specs.declared.state.Activity.{Activity}
 use Rattle.rules.specs.declared.state.State.{State}
 use Rattle.rules.specs.Search.{someBelow}
-use Rattle.rules.specs.State.{hold, isAtBarrier}
+use Rattle.rules.specs.State.{noHold, isAtBarrier}
 use Rattle.rules.specs.Clocks.{isHeld}
 
 -- A 65th activity, a 17th clock or a 17th accumulator is needed: ASYNC, CLOCK and ACC make them.
@@ -19,9 +21,13 @@ overfull s c = (eqb (opcode c) 0x05 && leb 64 (s .activities)) || ((eqb (opcode 
 abbrev pub isLast : Hold → Bool
 isLast h = isHeld (h .registration) && eqb (h .phase) 65535
 
+-- One of the eight is.
+unfoldable pub someLast : List Hold → Bool
+someLast hs = someBelow 8 (λ k. isLast (getD hs k noHold))
+
 -- Phase 65,536 is needed: only passing raises a phase, and who is at a meeting passes.
 unfoldable pub overtakes : Activity → Bool
-overtakes a = isAtBarrier (a .status) && someBelow 8 (λ k. isLast (hold a k))
+overtakes a = isAtBarrier (a .status) && someLast (a .holds)
 
 -- Number 17: a fault needs nothing but a step.
 unfoldable pub exceedsAt : ℕ → State → Activity → ℕ → Command → Bool

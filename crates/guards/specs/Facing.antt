@@ -7,7 +7,6 @@ use lib.Dec.{ltb}
 use Rattle.program.specs.Command.{isEnd}
 use Rattle.program.specs.Bodies.{Program, programOf}
 use Rattle.program.specs.declared.command.Command.{Command}
-use Rattle.program.specs.declared.scan.Layout.{Layout}
 use Rattle.rules.specs.declared.state.Activity.{Activity}
 use Rattle.rules.specs.declared.state.State.{State}
 use Rattle.rules.specs.State.{frame, top, isEnded}
@@ -19,18 +18,18 @@ use Rattle.guards.specs.Stack.{Stacked}
 -- WHAT IS PRESUMED
 
 -- An accepted table, and an activity that has a stack.
-pub record Firm (t : List ℕ) (l : Layout) (a : Activity) : Type 0 where
-  pub known : Known t l
+pub record Firm (t : List ℕ) (starts : List ℕ) (a : Activity) : Type 0 where
+  pub known : Known t starts
   pub stack : Stacked (programOf t) a
 
 -- An activity of a well-formed state: it has a stack unless it has ended.
-pub record Able (t : List ℕ) (l : Layout) (a : Activity) : Type 0 where
-  pub known : Known t l
+pub record Able (t : List ℕ) (starts : List ℕ) (a : Activity) : Type 0 where
+  pub known : Known t starts
   pub stack : isEnded (a .status) ≡ false → Stacked (programOf t) a
 
 -- The activity stands on the command.
-pub record Facing (t : List ℕ) (l : Layout) (a : Activity) (command : Command) : Type 0 where
-  pub known : Known t l
+pub record Facing (t : List ℕ) (starts : List ℕ) (a : Activity) (command : Command) : Type 0 where
+  pub known : Known t starts
   pub stack : Stacked (programOf t) a
   pub stands : command ≡ here (programOf t) (top a) .command
 
@@ -40,8 +39,8 @@ pub record Rooted (s : State) : Type 0 where
   pub falls : (x : ℕ) → 0 < x → x < s .activities → spawnerOf s x < x
 
 -- An activity that has a stack, beside a state in which spawners are lower than their children.
-pub record Placed (t : List ℕ) (l : Layout) (s : State) (a : Activity) : Type 0 where
-  pub known : Known t l
+pub record Placed (t : List ℕ) (starts : List ℕ) (s : State) (a : Activity) : Type 0 where
+  pub known : Known t starts
   pub stack : Stacked (programOf t) a
   pub rooted : Rooted s
 

@@ -1,4 +1,4 @@
--- What a promise of this crate presumes of the table: it was accepted, and the layout says where its bodies begin.
+-- What a promise of this crate presumes of the table: it was accepted, and the starts are those of its bodies.
 use Prim.Native.Nat.{ℕ}
 use mathlib.Core.Path.{_≡_}
 use mathlib.Core.List.{List}
@@ -7,14 +7,13 @@ use Rattle.program.specs.Command.{isEnd}
 use Rattle.program.specs.Bodies.{programOf}
 use Rattle.program.specs.Scan.{scan, layoutOf}
 use Rattle.program.specs.declared.command.Command.{Command}
-use Rattle.program.specs.declared.scan.Layout.{Layout}
 use Rattle.rules.specs.declared.state.Frame.{Frame}
 use Rattle.rules.specs.Tree.{here, nextOffset}
 use Rattle.rules.specs.WellFormed.{isPlaced}
 
-pub record Known (t : List ℕ) (l : Layout) : Type 0 where
+pub record Known (t : List ℕ) (starts : List ℕ) : Type 0 where
   pub scanned : scan t ≡ 0
-  pub laid : l ≡ layoutOf t
+  pub laid : starts ≡ layoutOf t .starts
 
 -- A frame stands on a command of an accepted table.
 pub record On (t : List ℕ) (f : Frame) (command : Command) : Type 0 where

@@ -1,7 +1,7 @@
 // Number 17: what a step would need more than there is.
 ghost use mathlib.Core.Path.{_≡_};
 ghost use Rattle.parts.specs.Shared.{lone};
-ghost use Rattle.guards.specs.Exceeding.{overfull, isLast, overtakes, exceedsAt};
+ghost use Rattle.guards.specs.Exceeding.{overfull, isLast, someLast, exceedsAt};
 use parts::checks::is_at_barrier;
 use parts::checks::is_held;
 use parts::shared::Shared;
@@ -45,17 +45,13 @@ fn is_last(hold: Hold) -> bool
     false
 }
 
-// Whether passing raises a phase to 65,536.
-fn overtakes(a: Activity) -> bool
-    ensures { λ r. ⌜ r ≡ overtakes a ⌝ }
+// Whether passing raises a phase of these holds to 65,536.
+fn overtakes(holds: [Hold; 8]) -> bool
+    ensures { λ r. ⌜ r ≡ someLast holds ⌝ }
 {
-    let status = a.status;
-    if !is_at_barrier(status) {
-        return false;
-    }
     let mut k: usize = 0;
     while k < 8 {
-        let hold = a.holds[k];
+        let hold = holds[k];
         if is_last(hold) {
             return true;
         }
@@ -77,5 +73,10 @@ pub fn exceeds(work: u64, e: Shared, a: Activity, fault: u8, command: Command) -
     if overfull(e, command) {
         return true;
     }
-    overtakes(a)
+    let status = a.status;
+    if !is_at_barrier(status) {
+        return false;
+    }
+    let holds = a.holds;
+    overtakes(holds)
 }

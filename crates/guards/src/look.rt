@@ -8,21 +8,21 @@ ghost use Rattle.rules.specs.Steps.{canStep};
 ghost use Rattle.guards.specs.Facing.{Able};
 ghost use Rattle.guards.specs.Views.{Fit, Sees};
 use super::faults::fault_for;
+use super::names::value_for;
 use super::place::command_at;
 use super::place::top_of;
 use super::waiting::asks;
 use super::waiting::waits_at;
 use parts::checks::is_ended;
-use parts::shared::Shared;
-use parts::shared::shared_of;
 use program::command::Command;
 use program::command::wide;
-use program::scan::Layout;
+use rules::state::Accumulator;
 use rules::state::Activity;
 use rules::state::State;
 
-// Number 15 or 0; the fault and the command; and whether the other activities are to be looked at.
+// Number 15 or 0; the fault and the command; the value that READ reads, 0 for any other command; and whether the other activities are to be looked at.
 pub struct Seen {
+    pub value: u32,
     pub number: u8,
     pub fault: u8,
     pub asks: bool,
@@ -30,12 +30,13 @@ pub struct Seen {
 }
 
 // An activity that was spawned, and its command, read once.
-pub fn look(table: &[u8], layout: Layout, e: Shared, i: usize, a: Activity) -> Seen
-    ensures { λ r. ⌜ (Able (now (table .entry)) layout a → Sees (programOf (now (table .entry))) e i a r) ⌝ }
+pub fn look(table: &[u8], starts: &[usize], accs: [Accumulator; 16], i: usize, a: Activity) -> Seen
+    ensures { λ r. ⌜ (Able (now (table .entry)) (now (starts .entry)) a → Sees (programOf (now (table .entry))) accs i a r) ⌝ }
 {
     let status = a.status;
     if is_ended(status) {
         return Seen {
+            value: 0,
             number: 15,
             fault: 0,
             asks: false,
@@ -43,22 +44,23 @@ pub fn look(table: &[u8], layout: Layout, e: Shared, i: usize, a: Activity) -> S
         };
     }
     let f = top_of(a);
-    let command = command_at(table, layout, f);
-    let fault = fault_for(table, layout, e, i, a, command);
-    if fault != 0 {
-        return Seen {
-            number: 0,
-            fault,
-            asks: false,
-            command,
-        };
-    }
-    let open = asks(table, layout, a, command);
-    Seen {
+    let command = command_at(table, starts, f);
+    let fault = fault_for(table, starts, accs, i, a, command);
+    let names = a.accumulators;
+    let value = value_for(accs, names, command);
+    let seen = Seen {
+        value,
         number: 0,
-        fault: 0,
-        asks: open,
+        fault,
+        asks: false,
         command,
+    };
+    if fault != 0 {
+        return seen;
+    }
+    Seen {
+        asks: asks(table, starts, a, command),
+        ..seen
     }
 }
 
@@ -73,23 +75,23 @@ fn goes(seen: Seen, waits: bool) -> bool
 }
 
 // The ready set: bit i for activity i, set where 14 to 16 do not apply.
-pub fn ready_set(table: &[u8], layout: Layout, s: State) -> u64
-    ensures { λ r. ⌜ (Fit (now (table .entry)) layout s → r ≡ bitsBelow 64 (canStep (programOf (now (table .entry))) s)) ⌝ }
+pub fn ready_set(table: &[u8], starts: &[usize], s: State) -> u64
+    ensures { λ r. ⌜ (Fit (now (table .entry)) (now (starts .entry)) s → r ≡ bitsBelow 64 (canStep (programOf (now (table .entry))) s)) ⌝ }
 {
-    let e = shared_of(s);
     let made = wide(s.activities);
     if 64 < made {
         return 0;
     }
+    let accs = s.accs;
     let mut set: u64 = 0;
     let mut i: usize = 0;
     while i < made {
         let a = s.acts[i];
-        let seen = look(table, layout, e, i, a);
+        let seen = look(table, starts, accs, i, a);
         let command = seen.command;
         let mut waits = false;
         if seen.asks {
-            waits = waits_at(table, layout, s, i, a, command);
+            waits = waits_at(table, starts, s, i, a, command);
         }
         if goes(seen, waits) {
             set |= 1u64 << i;

@@ -13,7 +13,6 @@ use program::command::wide;
 use program::command::width;
 use program::reading::Reading;
 use program::reading::fetch;
-use program::scan::Layout;
 use rules::state::Activity;
 use rules::state::Frame;
 
@@ -38,14 +37,14 @@ pub fn top_of(a: Activity) -> Frame
 }
 
 // The command at a frame's offset, read in the slice from its body's first command.
-pub fn command_at(table: &[u8], layout: Layout, f: Frame) -> Command
-    ensures { λ r. ⌜ (Known (now (table .entry)) layout → isPlaced (programOf (now (table .entry))) f ≡ true → r ≡ here (programOf (now (table .entry))) f .command) ⌝ }
+pub fn command_at(table: &[u8], starts: &[usize], f: Frame) -> Command
+    ensures { λ r. ⌜ (Known (now (table .entry)) (now (starts .entry)) → isPlaced (programOf (now (table .entry))) f ≡ true → r ≡ here (programOf (now (table .entry))) f .command) ⌝ }
 {
     let body = f.body as usize;
-    if 16 <= body {
+    if starts.len() <= body {
         return Command::End;
     }
-    let first = layout.starts[body];
+    let first = starts[body];
     if table.len() < first {
         return Command::End;
     }

@@ -16,7 +16,6 @@ use parts::checks::is_at_barrier;
 use program::command::Command;
 use program::command::opcode;
 use program::command::wide;
-use program::scan::Layout;
 use rules::state::Activity;
 use rules::state::State;
 
@@ -30,20 +29,20 @@ const READ: usize = 10;
 const RESET: usize = 11;
 
 // Whether the body at the top is one that a FINISH runs.
-fn in_finish_body(table: &[u8], layout: Layout, a: Activity) -> bool
-    ensures { λ r. ⌜ (Firm (now (table .entry)) layout a → r ≡ inFinishBody (programOf (now (table .entry))) a) ⌝ }
+fn in_finish_body(table: &[u8], starts: &[usize], a: Activity) -> bool
+    ensures { λ r. ⌜ (Firm (now (table .entry)) (now (starts .entry)) a → r ≡ inFinishBody (programOf (now (table .entry))) a) ⌝ }
 {
     if a.depth <= 1 {
         return false;
     }
-    finishes(table, layout, a, wide(a.depth) - 2)
+    finishes(table, starts, a, wide(a.depth) - 2)
 }
 
 // END of a FINISH body waits until every activity inside has ended.
-fn end_waits(table: &[u8], layout: Layout, s: State, i: usize, a: Activity) -> bool
-    ensures { λ r. ⌜ (Placed (now (table .entry)) layout s a → r ≡ waitsAt (programOf (now (table .entry))) s i a End) ⌝ }
+fn end_waits(table: &[u8], starts: &[usize], s: State, i: usize, a: Activity) -> bool
+    ensures { λ r. ⌜ (Placed (now (table .entry)) (now (starts .entry)) s a → r ≡ waitsAt (programOf (now (table .entry))) s i a End) ⌝ }
 {
-    if !in_finish_body(table, layout, a) {
+    if !in_finish_body(table, starts, a) {
         return false;
     }
     let f = top_of(a);
@@ -71,17 +70,17 @@ fn read_waits(s: State, i: usize) -> bool
 // Whether the activity waits at the command that it stands on.
 pub fn waits_at(
     table: &[u8],
-    layout: Layout,
+    starts: &[usize],
     s: State,
     i: usize,
     a: Activity,
     command: Command,
 ) -> bool
-    ensures { λ r. ⌜ (Placed (now (table .entry)) layout s a → r ≡ waitsAt (programOf (now (table .entry))) s i a command) ⌝ }
+    ensures { λ r. ⌜ (Placed (now (table .entry)) (now (starts .entry)) s a → r ≡ waitsAt (programOf (now (table .entry))) s i a command) ⌝ }
 {
     let op = opcode(command);
     if op == END {
-        return end_waits(table, layout, s, i, a);
+        return end_waits(table, starts, s, i, a);
     }
     if op == NEXT {
         return next_waits(s, a);
@@ -93,12 +92,12 @@ pub fn waits_at(
 }
 
 // Whether there is something to wait for at all: only then are the other activities looked at.
-pub fn asks(table: &[u8], layout: Layout, a: Activity, command: Command) -> bool
-    ensures { λ r. ⌜ (Firm (now (table .entry)) layout a → Asks (programOf (now (table .entry))) a command r) ⌝ }
+pub fn asks(table: &[u8], starts: &[usize], a: Activity, command: Command) -> bool
+    ensures { λ r. ⌜ (Firm (now (table .entry)) (now (starts .entry)) a → Asks (programOf (now (table .entry))) a command r) ⌝ }
 {
     let op = opcode(command);
     if op == END {
-        return in_finish_body(table, layout, a);
+        return in_finish_body(table, starts, a);
     }
     if op == NEXT {
         let status = a.status;

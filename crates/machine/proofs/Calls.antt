@@ -39,9 +39,9 @@ module _ (t : List ℕ) {found : Table} (e : found ≡ tableOf 65535 t) where
     counted-read = e ∙ table-counted 65535 t accepted-read
 
     -- The layout and the work that were read.
-    pub known-read : Known t (found .layout)
+    pub known-read : Known t (found .layout .starts)
     unfolding counted
-    known-read = record { scanned = numbered 65535 t accepted-read; laid = ap (λ (x : Table). x .layout) counted-read }
+    known-read = record { scanned = numbered 65535 t accepted-read; laid = ap (λ (x : Table). x .layout .starts) counted-read }
 
     pub work-read : found .work ≡ workOf (programOf t)
     unfolding counted
@@ -99,7 +99,7 @@ module _ (t : List ℕ) (s : State) {number : ℕ} (e : number ≡ unfit base (n
       pub number-none : found .number ≡ 0
       number-none = number-read t q ∙ parts .0
 
-      pub fit-checked : Fit t (found .layout) s
+      pub fit-checked : Fit t (found .layout .starts) s
       fit-checked = record { known = known-read t q number-none; formed = parts .1 }
 
     pub step-fit : {r : Stepped} (i : ℕ) → r ≡ advance base (programOf t) s i → r ≡ step base t s i

@@ -10,7 +10,6 @@ use borrow.Author.Tests.{ne-eqb, le-leb, lt-leb}
 use Rattle.program.specs.Bodies.{programOf}
 use Rattle.program.specs.Count.{workOf}
 use Rattle.program.specs.Table.{numberOf}
-use Rattle.program.specs.declared.scan.Layout.{Layout}
 use Rattle.rules.specs.declared.state.State.{State}
 use Rattle.rules.specs.declared.answer.Completion.the-variants as completion
 use Rattle.rules.specs.declared.answer.Stepped.{Stepped}
@@ -87,10 +86,10 @@ module _ {t order before : List ℕ} {first s : State} {buffer : List ℕ} {k : 
       )
 
 -- An order that can be followed.
-module _ {t : List ℕ} {l : Layout} {work : ℕ} {order before : List ℕ} {first : State} (f : Followable t l work first order (length before)) {s : State} {buffer : List ℕ} {k : ℕ}
+module _ {t : List ℕ} {starts : List ℕ} {work : ℕ} {order before : List ℕ} {first : State} (f : Followable t starts work first order (length before)) {s : State} {buffer : List ℕ} {k : ℕ}
     (u : Under t order before first s buffer k) (more : k < length order) where
   -- The state on the way is well-formed, so its step needs no check.
-  pub fit-here : Fit t l s
+  pub fit-here : Fit t starts s
   fit-here = record { known = f .known; formed = rw (u .here) (f .formed k more) }
 
   pub under-advance : {r : State} {i v : ℕ} → i ≡ getD order k 0 → r ≡ advance base (programOf t) s i .state → v ≡ answerNumber (advance base (programOf t) s i .answer)
@@ -117,8 +116,8 @@ module _ (t order before : List ℕ) where
     runs-short h q = rw q (let m = lt-leb (length order) (length before) h in record { result = rw (z, m); buffer = rw (z, m); demand = demanded })
 
     -- An order can be followed from the start: each state of a run is well-formed.
-    pub from-start : {l : Layout} {work : ℕ} {s : State} → Known t l → work ≡ workOf (programOf t) → work ≤ 65535 → length order ≤ length before → s ≡ startState
-        → Followable t l work s order (length before)
+    pub from-start : {starts : List ℕ} {work : ℕ} {s : State} → Known t starts → work ≡ workOf (programOf t) → work ≤ 65535 → length order ≤ length before → s ≡ startState
+        → Followable t starts work s order (length before)
     from-start known counted small room e =
         rw e
         (record {

@@ -12,30 +12,29 @@ use borrow.Author.Tests.{leb-true}
 use Rattle.program.specs.Command.{rows, rowAt, rowOf, held, width}
 use Rattle.program.specs.Bodies.{Program, programOf, from, headOf}
 use Rattle.program.specs.declared.command.Command.{Command}
-use Rattle.program.specs.declared.command.Command.the-variants.{End, Next, Repeat, Atom}
-use Rattle.program.specs.declared.scan.Layout.{Layout}
+use Rattle.program.specs.declared.command.Command.the-variants.{End, Read, Atom}
 use Rattle.program.proofs.Shape.{OnCells, Ranged, Sound}
 use Rattle.program.proofs.ShapeRows.{held-is, width-is}
 use Rattle.rules.specs.declared.state.Frame.{Frame}
+use Rattle.rules.specs.declared.state.Accumulator.{Accumulator}
 use Rattle.rules.specs.declared.state.Activity.{Activity}
 use Rattle.rules.specs.declared.state.Status.the-variants.{Ended}
 use Rattle.rules.specs.State.{top, isAtBarrier}
 use Rattle.rules.specs.Tree.{rest, here}
-use Rattle.rules.specs.Effects.{Touch, withStores, touch, touchAll, untouched, past, pushed, again, popped, stopped, endOf, nextOf, repeatOf, touching, effectOf, envOf}
+use Rattle.rules.specs.Effects.{Touch, withStores, touch, touchAll, untouched, past, pushed, again, popped, stopped, endOf, nextOf, repeatOf, touching, effectOf}
 use Rattle.rules.proofs.Tests.{and-true}
 use Rattle.parts.specs.declared.shared.Shared.{Shared}
-use Rattle.parts.specs.Shared.{lone}
 use Rattle.effects.specs.Cells.{InRange, Agrees, cellIn, Follows, FollowsAll, FollowsIn}
 use Rattle.effects.specs.declared.cells.Touched.{Touched}
 use Rattle.effects.proofs.Storing.{agrees-first}
 use Rattle.guards.specs.Known.{On}
 use Rattle.guards.specs.Facing.{Facing}
 use Rattle.guards.proofs.Places.{sound-here}
-use Rattle.machine.specs.Perform.{effectHere, Touches}
+use Rattle.machine.specs.Perform.{effectHere, Reads, Touches}
 
 -- STANDING ON A COMMAND
 
-module _ {t : List ℕ} {l : Layout} {a : Activity} {command : Command} (h : Facing t l a command) where
+module _ {t : List ℕ} {starts : List ℕ} {a : Activity} {command : Command} (h : Facing t starts a command) where
   pub on : On t (top a) command
   on = let q = h .stack .some in record { scanned = h .known .scanned; placed = h .stack .placed (a .depth - 1) (omega arith); stands = h .stands }
 
@@ -122,25 +121,30 @@ unfolding repeatOf past pushed
 repeat-register p a zero b = refl
 repeat-register p a (suc n) b = refl
 
-module _ (p : Program) (e : Shared) (a : Activity) {command : Command} (o : Command) (q : command ≡ o) where
+module _ (p : Program) (e : Shared) (a : Activity) {command : Command} (o : Command) (q : command ≡ o) (value : ℕ) where
   -- A command that stores nothing in the cells.
-  pub storeless : (v : ℕ) → ((i : ℕ) → v ≡ effectHere p (lone e) i a o .self .register) → ((i : ℕ) → effectHere p (lone e) i a o .stores ≡ [])
-      → Touches p e a command (record { cells = e .cells; register = v })
+  pub storeless : (v : ℕ) → ((accs : List Accumulator) (i : ℕ) → v ≡ effectHere p accs e i a o .self .register) → ((accs : List Accumulator) (i : ℕ) → effectHere p accs e i a o .stores ≡ [])
+      → Touches p e a command value (record { cells = e .cells; register = v })
   unfolding withStores
-  storeless v f g = record { register = λ i. rw q (f i); cells = λ i. rw (q, g i) }
+  storeless v f g = record { register = λ accs h i. rw q (f accs i); cells = λ accs i. rw (q, g accs i) }
 
   -- A command on the cells.
-  touching-cells : {r : Touched} (x : Touch) → Agrees (e .cells) x r → ((i : ℕ) → effectHere p (lone e) i a o ≡ touching p a x) → Touches p e a command r
+  touching-cells : {r : Touched} (x : Touch) → Agrees (e .cells) x r → ((accs : List Accumulator) (i : ℕ) → effectHere p accs e i a o ≡ touching p a x) → Touches p e a command value r
   unfolding past
-  touching-cells x g f = record { register = λ i. rw (q, f i) (g .same); cells = λ i. rw (q, f i) (g .stored) }
+  touching-cells x g f = record { register = λ accs h i. rw (q, f accs i) (g .same); cells = λ accs i. rw (q, f accs i) (g .stored) }
 
   pub touched-cell : {r : Touched} → length (e .cells) ≡ 16 → InRange command → FollowsIn (record { cells = e .cells; register = a .register }) command r
-      → ((i : ℕ) → effectHere p (lone e) i a o ≡ touching p a (touch (cellIn (e .cells)) (untouched a) o)) → Touches p e a command r
+      → ((accs : List Accumulator) (i : ℕ) → effectHere p accs e i a o ≡ touching p a (touch (cellIn (e .cells)) (untouched a) o)) → Touches p e a command value r
   unfolding FollowsIn Follows
   touched-cell {r} long h d f =
       touching-cells (touch (cellIn (e .cells)) (untouched a) o) (subst (λ (c : Command). Agrees (e .cells) (touch (cellIn (e .cells)) (untouched a) c) r) q (d h (e .cells) (untouched a) (agrees-first (e .cells) a long))) f
 
   pub touched-atom : {r : Touched} → length (e .cells) ≡ 16 → FollowsAll (record { cells = e .cells; register = a .register }) (here p (top a) .inner) r
-      → ((i : ℕ) → effectHere p (lone e) i a o ≡ touching p a (touchAll (cellIn (e .cells)) (untouched a) (here p (top a) .inner))) → Touches p e a command r
+      → ((accs : List Accumulator) (i : ℕ) → effectHere p accs e i a o ≡ touching p a (touchAll (cellIn (e .cells)) (untouched a) (here p (top a) .inner))) → Touches p e a command value r
   unfolding FollowsAll
   touched-atom long d f = touching-cells (touchAll (cellIn (e .cells)) (untouched a) (here p (top a) .inner)) (d (e .cells) (untouched a) (agrees-first (e .cells) a long)) f
+
+-- READ: the value that it reads.
+pub reads-value : (p : Program) (e : Shared) (a : Activity) {command : Command} (n value : ℕ) → command ≡ Read n → Touches p e a command value (record { cells = e .cells; register = value })
+unfolding Reads effectOf past withStores
+reads-value p e a n value q = record { register = λ accs h i. rw q (h n q); cells = λ accs i. rw q }

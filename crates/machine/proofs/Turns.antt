@@ -1,5 +1,5 @@
 -- The step of activity i: numbers 14 to 17, or the state after its effect, answered with the activity's status there.
-use Prim.Native.Nat.{ℕ, _-_, _≤_, _<_}
+use Prim.Native.Nat.{ℕ, _≤_, _<_}
 use native.Mathlib.Omega.{arith}
 use mathlib.Core.Path.{_≡_, sym, ap, _∙_}
 use mathlib.Core.List.{List}
@@ -8,29 +8,28 @@ use lib.ListN.{length, getD, set}
 use lib.Seq.{getD-set-same, getD-set-other}
 use lib.Dec.{eqb}
 use borrow.Author.Tests.{ne-eqb}
-use Rattle.program.specs.Command.{isEnd}
 use Rattle.program.specs.Bodies.{Program, programOf}
 use Rattle.program.specs.declared.command.Command.{Command}
-use Rattle.program.specs.declared.scan.Layout.{Layout}
+use Rattle.rules.specs.declared.state.Accumulator.{Accumulator}
 use Rattle.rules.specs.declared.state.Activity.{Activity}
 use Rattle.rules.specs.declared.state.State.{State}
 use Rattle.rules.specs.declared.state.Status.the-variants.{Faulted}
 use Rattle.rules.specs.declared.answer.Answer.the-variants.{Accepted, Refused}
 use Rattle.rules.specs.State.{faultOf, act, top, absent, ended}
-use Rattle.rules.specs.Tree.{here, nextOffset}
+use Rattle.rules.specs.Tree.{here}
 use Rattle.rules.specs.Effects.{Spawned, nobody, one, Effect, withSpawned, effectOf, failing, envOf, applied}
 use Rattle.rules.specs.Steps.{base, at, fault, effect, refusal, exceeds, stepped, advance}
 use Rattle.rules.proofs.WellFormedApply.{turn, room}
-use Rattle.rules.proofs.WellFormedFacts.{facts}
-use Rattle.guards.specs.Stack.{Stacked}
-use Rattle.parts.specs.Shared.{whole, lone}
+use Rattle.parts.specs.Shared.{whole}
 use Rattle.machine.specs.Change.{Alters, Does, IsChild}
 use Rattle.machine.specs.Perform.{Performing, Performed}
 use Rattle.parts.specs.declared.shared.Shared.{Shared}
 use Rattle.machine.specs.declared.change.Change.{Change}
-use Rattle.guards.specs.Views.{Fit}
-use Rattle.machine.specs.Turn.{Turn}
-use Rattle.guards.proofs.Facing.{stack-of, facing}
+use Rattle.machine.specs.Turn.{Turn, TakingAt}
+use Rattle.guards.specs.Facing.{Facing}
+use Rattle.guards.specs.declared.look.Seen.{Seen}
+use Rattle.guards.proofs.Facing.{facing}
+use Rattle.effects.specs.Accumulators.{accsAfter}
 
 -- NUMBERS
 
@@ -62,22 +61,15 @@ module _ (p : Program) (s : State) (i : ℕ) where
 
 -- THE EFFECT
 
-module _ {t : List ℕ} {l : Layout} {s : State} {i : ℕ} {a : Activity} {f : ℕ} {command : Command} (h : Turn t l s i a f command) where
+module _ {t starts : List ℕ} {s : State} {i : ℕ} {a : Activity} {f : ℕ} {command : Command} (h : Turn t starts s i a f command) where
   -- The activity was spawned.
   pub made : i < s .activities
   made = turn (programOf t) s i (h .goes) .spawned
 
-  pub made-few : s .activities ≤ 64
-  made-few = facts 65535 (programOf t) s (h .fit .formed) .acts64
-
-  -- It has a stack.
-  pub turn-stack : Stacked (programOf t) a
-  turn-stack = rw (h .own) (stack-of (h .fit) made (turn (programOf t) s i (h .goes) .unended))
-
-  -- The command that it stands on.
-  pub stands-here : command ≡ here (programOf t) (top a) .command
+  -- It stands on the command.
+  pub turn-facing : Facing t starts a command
   unfolding at
-  stands-here = rw (h .own) (h .stands)
+  turn-facing = rw (h .own) (facing (h .fit) made (turn (programOf t) s i (h .goes) .unended) (h .stands))
 
   -- One more step fits.
   pub stepping : exceeds base (programOf t) s (effect (programOf t) s i) ≡ false → s .steps < 65535
@@ -88,39 +80,27 @@ module _ {t : List ℕ} {l : Layout} {s : State} {i : ℕ} {a : Activity} {f : �
   unfolding effect
   failed n = rw (h .own, sym (h .met), ne-eqb f 0 n)
 
-  module _ (z : f ≡ 0) where
-    -- The effect is the command's.
-    doing : effect (programOf t) s i ≡ effectOf (programOf t) (envOf s) i a command (here (programOf t) (top a) .inner)
-    unfolding effect at
-    doing = rw (h .own, h .stands, sym (h .met) ∙ z)
+  -- The effect is the command's.
+  doing : f ≡ 0 → effect (programOf t) s i ≡ effectOf (programOf t) (envOf s) i a command (here (programOf t) (top a) .inner)
+  unfolding effect at
+  doing z = rw (h .own, h .stands, sym (h .met) ∙ z)
 
-    -- What the command needs.
-    performing : exceeds base (programOf t) s (effect (programOf t) s i) ≡ false → Performing t l s i a command
-    performing x =
-        record {
-          known = h .fit .known;
-          below = omega (arith, made, made-few);
-          work = h .worked;
-          stack = turn-stack;
-          stands = stands-here;
-          fits = rw doing at x;
-        }
+-- IN PARTS
 
--- IN TWO PARTS
-
-module _ {t : List ℕ} {l : Layout} {acts : List Activity} {e : Shared} {i : ℕ} {a : Activity} {f : ℕ} {command : Command} (h : Turn t l (whole acts e) i a f command) where
+module _ {t starts : List ℕ} {accs : List Accumulator} {e : Shared} {i : ℕ} {a : Activity} {seen : Seen} {acts : List Activity} (h : TakingAt t starts accs e i a seen acts) where
   -- What a command needs does not depend on the other activities.
-  pub performing-alone : f ≡ 0 → exceeds base (programOf t) (whole acts e) (effect (programOf t) (whole acts e) i) ≡ false → Performing t l (lone e) i a command
+  performing : seen .fault ≡ 0 → Performing t accs e i a (seen .command) (seen .value)
   unfolding exceeds
-  performing-alone z x =
-      let g = performing h z x in
-      record { known = g .known; below = g .below; work = g .work; stack = g .stack; stands = g .stands; fits = g .fits }
+  performing z = let x = rw (doing (h .turn) z) at (h .fits) in record { work = h .turn .worked; reads = h .reads; fits = x }
 
   -- What was changed is the effect's.
-  pub failed-change : (r : Change) (c : Activity) → (f ≡ 0 → ⊥) → Does e r (failing a (Faulted (faultOf f))) → Alters e c r (effect (programOf t) (whole acts e) i)
-  unfolding Does
-  failed-change r c n d = rw (failed h n) (d c)
+  module _ (r : Change) (c : Activity) where
+    pub failed-change : (seen .fault ≡ 0 → ⊥) → Does e r (failing a (Faulted (faultOf (seen .fault))))
+        → Alters accs e c (accsAfter accs (e .accumulators) i (a .accumulators) (a .register) (seen .command)) r (effect (programOf t) (whole acts accs e) i)
+    unfolding Does
+    failed-change n d = rw (failed (h .turn) n) (d accs c (accsAfter accs (e .accumulators) i (a .accumulators) (a .register) (seen .command)))
 
-  pub done-change : (r : Change) (c : Activity) → f ≡ 0 → IsChild i a command c → Performed (programOf t) e i a command r → Alters e c r (effect (programOf t) (whole acts e) i)
-  unfolding Performed
-  done-change r c z so d = rw (doing h z) (d c so)
+    pub done-change : seen .fault ≡ 0 → IsChild i a (seen .command) c → Performed t e i a (seen .command) (seen .value) r
+        → Alters accs e c (accsAfter accs (e .accumulators) i (a .accumulators) (a .register) (seen .command)) r (effect (programOf t) (whole acts accs e) i)
+    unfolding Performed
+    done-change z so d = rw (doing (h .turn) z) (d accs (performing z) c so)

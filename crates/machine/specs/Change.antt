@@ -6,6 +6,7 @@ use mathlib.Core.Bool.{Bool, cond}
 use lib.ListN.{set}
 use Rattle.program.specs.declared.command.Command.{Command}
 use Rattle.program.specs.declared.command.Command.the-variants.{Async}
+use Rattle.rules.specs.declared.state.Accumulator.{Accumulator}
 use Rattle.rules.specs.declared.state.Activity.{Activity}
 use Rattle.rules.specs.declared.state.State.{State}
 use Rattle.rules.specs.State.{statusAnswer}
@@ -17,22 +18,23 @@ use Rattle.machine.specs.declared.change.Change.{Change}
 
 -- A CHANGE
 
-abbrev pub changing : Activity → Shared → Bool → Change
-changing own e spawned = record { own = own; shared = e; spawned = spawned; number = statusAnswer (own .status) }
+abbrev pub changing : Activity → Shared → Bool → Bool → Change
+changing own e spawned writes = record { own = own; shared = e; spawned = spawned; writes = writes; number = statusAnswer (own .status) }
 
--- The state after a change: the own entry, one more where the turn spawned an activity, and what is shared.
-unfoldable pub changed : List Activity → Shared → ℕ → Activity → Change → State
-changed acts e i c r = let own = set acts i (r .own) in whole (cond (r .spawned) (set own (e .activities) c) own) (r .shared)
+-- The state after a change: the own entry, one more where the turn spawned an activity, other accumulators where it wrote them, the cells and the counts.
+unfoldable pub changed : List Activity → List Accumulator → Shared → ℕ → Activity → List Accumulator → Change → State
+changed acts accs e i c d r = let own = set acts i (r .own) in whole (cond (r .spawned) (set own (e .activities) c) own) (cond (r .writes) d accs) (r .shared)
 
--- The change is that of an effect, whichever the activities are, where c is whom the effect spawns; the answer is the activity's status.
-pub record Alters (e : Shared) (c : Activity) (r : Change) (x : Effect) : Type 0 where
-  pub state : (acts : List Activity) (i : ℕ) → changed acts e i c r ≡ applied (whole acts e) i x
+-- The change is that of an effect, whichever the activities are, where c is whom the effect spawns and d what it makes of the accumulators; the answer is the
+-- activity's status.
+pub record Alters (accs : List Accumulator) (e : Shared) (c : Activity) (d : List Accumulator) (r : Change) (x : Effect) : Type 0 where
+  pub state : (acts : List Activity) (i : ℕ) → changed acts accs e i c d r ≡ applied (whole acts accs e) i x
   pub number : r .number ≡ statusAnswer (x .self .status)
   pub spawned : r .spawned ≡ spawns (x .spawned)
 
--- The same of an effect that spawns nobody.
+-- The same of an effect on the activity alone.
 unfoldable pub Does : Shared → Change → Effect → Type 0
-Does e r x = (c : Activity) → Alters e c r x
+Does e r x = (accs : List Accumulator) (c : Activity) (d : List Accumulator) → Alters accs e c d r x
 
 -- Who is spawned by a command.
 unfoldable pub IsChild : ℕ → Activity → Command → Activity → Type 0

@@ -1,16 +1,18 @@
-// Turns, one after another: the activities stay where they are, and each turn changes only its own and what is shared.
+// Turns, one after another: the activities and the accumulators stay where they are.
 ghost use mathlib.Core.Path.{_≡_};
 ghost use Prim.Native.Nat.{_<_};
 ghost use lib.ListN.{length};
 ghost use Rattle.program.specs.Bodies.{programOf};
 ghost use Rattle.rules.specs.Steps.{base};
 ghost use Rattle.rules.specs.Runs.{runFrom};
+ghost use Rattle.effects.specs.Accumulators.{accsAfter};
 ghost use Rattle.machine.specs.Change.{IsChild};
 ghost use Rattle.machine.specs.Turn.{Taking, Taken, Due, Turned, Followable, answeredFrom};
 use super::change::Change;
 use super::change::unmoved;
 use super::perform::fail;
 use super::perform::perform;
+use effects::accumulators::accs_after;
 use effects::life::child;
 use guards::limits::exceeds;
 use guards::look::Seen;
@@ -22,34 +24,26 @@ use parts::shared::whole;
 use program::command::Command;
 use program::command::operands;
 use program::command::wide;
-use program::scan::Layout;
-use program::table::Table;
+use rules::state::Accumulator;
 use rules::state::Activity;
 use rules::state::State;
 
 // What a step that is not turned down changes.
-fn taken(
-    table: &[u8],
-    layout: Layout,
-    e: Shared,
-    i: usize,
-    a: Activity,
-    fault: u8,
-    command: Command,
-) -> Change
-    requires { ⌜ Taking (now table) layout e i a fault command ⌝ }
-    ensures { λ r. ⌜ Taken (now (table .entry)) layout e i a fault command r ⌝ }
+fn taken(table: &[u8], starts: &[usize], e: Shared, i: usize, a: Activity, seen: Seen) -> Change
+    requires { ⌜ Taking (now table) (now starts) e i a seen ⌝ }
+    ensures { λ r. ⌜ Taken (now (table .entry)) (now (starts .entry)) e i a seen r ⌝ }
 {
-    if fault != 0 {
-        return fail(e, a, fault);
+    if seen.fault != 0 {
+        return fail(e, a, seen.fault);
     }
-    perform(table, layout, e, i, a, command)
+    let command = seen.command;
+    perform(table, starts, e, i, a, command, seen.value)
 }
 
 // A turn of an activity that was spawned: numbers 15 to 17 change nothing.
 fn turn(
     table: &[u8],
-    layout: Layout,
+    starts: &[usize],
     work: u64,
     e: Shared,
     i: usize,
@@ -57,8 +51,8 @@ fn turn(
     seen: Seen,
     waits: bool,
 ) -> Change
-    requires { ⌜ Due (now table) layout work e i a seen waits ⌝ }
-    ensures { λ r. ⌜ Turned (now (table .entry)) layout work e i a seen waits r ⌝ }
+    requires { ⌜ Due (now table) (now starts) work e i a seen waits ⌝ }
+    ensures { λ r. ⌜ Turned (now (table .entry)) (now (starts .entry)) work e i a seen waits r ⌝ }
 {
     if seen.number != 0 {
         return unmoved(e, a, seen.number);
@@ -71,7 +65,7 @@ fn turn(
     if exceeds(work, e, a, fault, command) {
         return unmoved(e, a, 17);
     }
-    taken(table, layout, e, i, a, fault, command)
+    taken(table, starts, e, i, a, seen)
 }
 
 // The activity that ASYNC spawns; of another command it means nothing.
@@ -83,15 +77,36 @@ fn child_of(i: usize, a: Activity, command: Command) -> Activity
     child(i as u8, a, bytes[0], bytes[1])
 }
 
+// The accumulators after a command that writes them.
+fn written(
+    accs: [Accumulator; 16],
+    made: u8,
+    i: usize,
+    a: Activity,
+    command: Command,
+) -> [Accumulator; 16]
+    requires { ⌜ i < 64 ⌝ }
+    ensures { λ r. ⌜ r ≡ accsAfter accs made i (a .accumulators) (a .register) command ⌝ }
+{
+    let names = a.accumulators;
+    accs_after(accs, made, i as u8, names, a.register, command)
+}
+
 // A turn for each byte of the order, from a well-formed state. The number of each answer goes into the buffer.
-pub fn follow(table: &[u8], known: Table, s: State, order: &[u8], answers: &mut [u8]) -> State
-    requires { ⌜ Followable (now table) (known .layout) (known .work) s (now order) (length (now answers)) ⌝ }
+pub fn follow(
+    table: &[u8],
+    starts: &[usize],
+    work: u64,
+    s: State,
+    order: &[u8],
+    answers: &mut [u8],
+) -> State
+    requires { ⌜ Followable (now table) (now starts) work s (now order) (length (now answers)) ⌝ }
     ensures { λ r. ⌜ r ≡ runFrom base (now (table .entry)) s (now (order .entry)) ⌝ }
     ensures { λ _. ⌜ now (answers .exit) ≡ answeredFrom (now (table .entry)) s (now (order .entry)) (now (answers .entry)) ⌝ }
 {
-    let layout = known.layout;
-    let work = known.work;
     let mut acts = s.acts;
+    let mut accs = s.accs;
     let mut shared = shared_of(s);
     let mut k: usize = 0;
     while k < order.len() {
@@ -100,17 +115,21 @@ pub fn follow(table: &[u8], known: Table, s: State, order: &[u8], answers: &mut 
         let mut number: u8 = 14;
         if i < made {
             let a = acts[i];
-            let seen = look(table, layout, shared, i, a);
+            let seen = look(table, starts, accs, i, a);
             let command = seen.command;
             let mut waits = false;
             if seen.asks {
-                waits = waits_at(table, layout, whole(acts, shared), i, a, command);
+                waits = waits_at(table, starts, whole(acts, accs, shared), i, a, command);
             }
-            let change = turn(table, layout, work, shared, i, a, seen, waits);
+            let change = turn(table, starts, work, shared, i, a, seen, waits);
             let own = change.own;
             acts[i] = own;
             if change.spawned {
                 acts[made] = child_of(i, a, command);
+            }
+            if change.writes {
+                let row = written(accs, shared.accumulators, i, a, command);
+                accs = row;
             }
             let after = change.shared;
             shared = after;
@@ -119,5 +138,5 @@ pub fn follow(table: &[u8], known: Table, s: State, order: &[u8], answers: &mut 
         answers[k] = number;
         k += 1;
     }
-    whole(acts, shared)
+    whole(acts, accs, shared)
 }

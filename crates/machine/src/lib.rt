@@ -71,9 +71,11 @@ pub fn step(table: &[u8], s: State, activity: usize) -> Stepped
         };
     }
     let known = checked.table;
+    let layout = known.layout;
+    let starts = layout.starts;
     let order = [activity as u8];
     let mut answers = [0u8];
-    let state = follow(table, known, s, &order, &mut answers);
+    let state = follow(table, &starts, known.work, s, &order, &mut answers);
     let own = state.acts[activity];
     let status = own.status;
     Stepped {
@@ -93,8 +95,9 @@ pub fn ready(table: &[u8], s: State) -> Ready
     }
     let known = checked.table;
     let layout = known.layout;
+    let starts = layout.starts;
     Ready {
-        set: ready_set(table, layout, s),
+        set: ready_set(table, &starts, s),
         number: 0,
     }
 }
@@ -129,7 +132,9 @@ pub fn run(table: &[u8], order: &[u8], answers: &mut [u8]) -> Ran
             state: zero_state(),
         };
     }
-    let state = follow(table, found, start_state(), order, answers);
+    let layout = found.layout;
+    let starts = layout.starts;
+    let state = follow(table, &starts, found.work, start_state(), order, answers);
     Ran {
         completion: Completion::Done,
         state,

@@ -1,16 +1,16 @@
 // A step that goes on, and a step that faults.
 ghost use mathlib.Core.Path.{_≡_};
 ghost use Prim.Native.Nat.{_<_};
-ghost use Rattle.program.specs.Bodies.{programOf};
 ghost use Rattle.rules.specs.declared.state.Status.the-variants.{Faulted};
 ghost use Rattle.rules.specs.State.{faultOf};
 ghost use Rattle.rules.specs.Effects.{failing};
-ghost use Rattle.parts.specs.Shared.{lone};
+ghost use Rattle.guards.specs.Facing.{Facing};
 ghost use Rattle.machine.specs.Change.{Does};
-ghost use Rattle.machine.specs.Perform.{Performing, Performed};
+ghost use Rattle.machine.specs.Perform.{Performed};
 use super::cells::touched;
 use super::change::Change;
 use super::change::changing;
+use effects::accumulators::writes;
 use effects::life::stopped;
 use effects::own_after;
 use effects::share::counted;
@@ -20,27 +20,28 @@ use parts::numbers::fault_of;
 use parts::shared::Shared;
 use program::command::Command;
 use program::command::opcode;
-use program::scan::Layout;
 use rules::state::Activity;
 use rules::state::Status;
 
 // The command byte of ASYNC, which makes an activity.
 const ASYNC: usize = 5;
 
-// The effect of a command that meets no fault. Whom ASYNC spawns, `child_of` of advance.rt says.
+// The effect of a command that meets no fault; `value` is what READ reads. Whom ASYNC spawns, `child_of` of advance.rt says, and what becomes of the
+// accumulators, `written`.
 pub fn perform(
     table: &[u8],
-    layout: Layout,
+    starts: &[usize],
     e: Shared,
     i: usize,
     a: Activity,
     command: Command,
+    value: u32,
 ) -> Change
-    requires { ⌜ Performing (now table) layout (lone e) i a command ⌝ }
-    ensures { λ r. ⌜ Performed (programOf (now (table .entry))) e i a command r ⌝ }
+    requires { ⌜ Facing (now table) (now starts) a command ⌝ }
+    ensures { λ r. ⌜ Performed (now (table .entry)) e i a command value r ⌝ }
 {
-    let next = next_after(table, layout, a, command);
-    let t = touched(table, layout, e, a, command);
+    let next = next_after(table, starts, a, command);
+    let t = touched(table, starts, e, a, command, value);
     let own = own_after(
         a,
         command,
@@ -51,9 +52,8 @@ pub fn perform(
         e.accumulators,
     );
     let cells = t.cells;
-    let names = a.accumulators;
-    let shared = shared_after(e, i as u8, names, a.register, command, cells);
-    changing(own, shared, opcode(command) == ASYNC)
+    let shared = shared_after(e, command, cells);
+    changing(own, shared, opcode(command) == ASYNC, writes(command))
 }
 
 // A fault ends the activity.
@@ -62,5 +62,5 @@ pub fn fail(e: Shared, a: Activity, fault: u8) -> Change
     ensures { λ r. ⌜ Does e r (failing a (Faulted (faultOf fault))) ⌝ }
 {
     let own = stopped(a, Status::Faulted(fault_of(fault)));
-    changing(own, counted(e), false)
+    changing(own, counted(e), false, false)
 }

@@ -4,4 +4,4 @@ pub mod checks; // checks.rt: tests of a status, of a registration and of entrie
 pub mod holds; // holds.rt: what RESUME, NEXT and ASYNC do to a clock's registration
 pub mod empty; // empty.rt: unused entries, the state of zeros and the start state
 pub mod reduction; // reduction.rt: accumulators
-pub mod shared; // shared.rt: a state in two parts, the activities and what they share
+pub mod shared; // shared.rt: a state in parts, the activities, the accumulators and what else is shared

@@ -10,14 +10,18 @@ check-requires c κs = search needs
 returns : tie.Need-returns
 returns c = let s = c .before .before .before .args in ready-unfit (s .table .now) (s .s) (c .before .check .ensures .0) (c .if1 .taken)
 
+slice-aggregate-ready-set : tie.Need-slice-aggregate-ready-set
+slice-aggregate-ready-set c = search needs
+
 ready-set-requires : tie.Need-ready-set-requires
 ready-set-requires c κs = search needs
 
 returns-2 : tie.Need-returns-2
 returns-2 c =
-    let s = c .before .before .before .before .before .before .args in
-    let k = c .before .before .before .before .check .ensures in
-    let z = c .before .before .before .if1 .left in
+    let e = c .before .before .before .before .before in
+    let s = e .before .before .before .args in
+    let k = e .before .check .ensures in
+    let z = e .if1 .left in
     ready-fit (s .table .now) (s .s) (k .0) z (c .ready-set .ensures (fit-checked (s .table .now) (s .s) (k .0) z (k .1)))
 
 pub ready-spec : {M : Type 1} → statement M
@@ -26,5 +30,6 @@ ready-spec =
     (tie.spec
     check-requires
     returns
+    slice-aggregate-ready-set
     ready-set-requires
     returns-2)

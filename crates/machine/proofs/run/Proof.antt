@@ -33,25 +33,28 @@ returns-2 c =
     let s = c .before .before .before .before .before .before .before .args in
     runs-short (s .table .now) (s .order .now) (s .answers .now) (accepted-read (s .table .now) (c .before .before .before .read-table .ensures) (c .before .before .if1 .left)) (c .before .if2 .taken) (c .zero-state2 .ensures)
 
+slice-aggregate-follow : tie.Need-slice-aggregate-follow
+slice-aggregate-follow c = search needs
+
 start-state-requires : tie.Need-start-state-requires
 start-state-requires c κs = search needs
 
 follow-requires : tie.Need-follow-requires
 follow-requires c κs =
-    let k = c .before .before .before in
+    let k = c .before .before .before .before .before .before in
     let s = start k .args in
     let e = k .before .read-table .ensures in
     from-start (s .table .now) (s .order .now) (s .answers .now) (accepted k) (known-read (s .table .now) e (k .if1 .left)) (work-read (s .table .now) e (k .if1 .left))
-    (work-small (s .table .now) e (k .if1 .left)) (c .before .before .if2 .left) (c .before .start-state .ensures)
+    (work-small (s .table .now) e (k .if1 .left)) (c .before .before .before .before .before .if2 .left) (c .before .start-state .ensures)
 
 same-length : tie.Need-same-length
 same-length c = search needs
 
 returns-3 : tie.Need-returns-3
 returns-3 c =
-    let k = c .before .before .before .before .before .before in
+    let k = c .before .before .before .before .before .before .before .before .before in
     let s = start k .args in
-    runs-done (s .table .now) (s .order .now) (s .answers .now) (accepted k) (c .before .before .before .before .before .if2 .left) (c .before .before .before .before .start-state .ensures) (c .before .before .follow .ensures .0) (c .before .before .follow .ensures .1)
+    runs-done (s .table .now) (s .order .now) (s .answers .now) (accepted k) (c .before .before .before .before .before .before .before .before .if2 .left) (c .before .before .before .before .start-state .ensures) (c .before .before .follow .ensures .0) (c .before .before .follow .ensures .1)
 
 pub run-spec : {M : Type 1} → statement M
 run-spec =
@@ -62,6 +65,7 @@ run-spec =
     returns
     zero-state-requires-2
     returns-2
+    slice-aggregate-follow
     start-state-requires
     follow-requires
     same-length

@@ -25,7 +25,7 @@ sized c = search (needs, length-field)
 abbrev start : tie.Else1 → tie.Start
 start c = c .before .before .before
 
-fit : (c : tie.Else1) → Fit (start c .args .table .now) (c .before .check .result .table .layout) (start c .args .s)
+fit : (c : tie.Else1) → Fit (start c .args .table .now) (c .before .check .result .table .layout .starts) (start c .args .s)
 fit c = let k = c .before .check .ensures in fit-checked (start c .args .table .now) (start c .args .s) (k .0) (c .if1 .left) (k .1)
 
 none : (c : tie.Else1) → c .before .check .result .table .number ≡ 0
@@ -58,9 +58,12 @@ slice-aggregate-follow c = search needs
 slice-aggregate-follow-2 : tie.Need-slice-aggregate-follow-2
 slice-aggregate-follow-2 c = search needs
 
+slice-aggregate-follow-3 : tie.Need-slice-aggregate-follow-3
+slice-aggregate-follow-3 c = search needs
+
 follow-requires : tie.Need-follow-requires
 follow-requires c κs =
-    let k = c .before .before .before .before in
+    let k = c .before .before .before .before .before .before .before in
     let s = start k .args in
     let e = k .before .check .ensures .1 in
     one (fit k) (accepted k) (s .activity) (work-read (s .table .now) e (none k)) (work-small (s .table .now) e (none k))
@@ -79,7 +82,7 @@ answer-of-requires c κs = search needs
 
 returns-3 : tie.Need-returns-3
 returns-3 c =
-    let k = c .before .before .before .before .before .before .before .before in
+    let k = c .before .before .before .before .before .before .before .before .before .before .before in
     let s = start k .args in
     let f = c .before .before .before .follow .ensures in
     let q = sym (is-step k refl) in
@@ -98,6 +101,7 @@ step-spec =
     cast-answer-of
     slice-aggregate-follow
     slice-aggregate-follow-2
+    slice-aggregate-follow-3
     follow-requires
     mul-own
     element-copy-out-own

@@ -1,5 +1,6 @@
 -- Each arm is the definition's at its command.
 use Rattle.rules.specs.Faults.{faultFor}
+use Rattle.guards.specs.Met.{ReadFault, FaultFor}
 use borrow.Author.Needs.{needs}
 use Rattle.guards.proofs.faults.fault_for.Statement.{statement}
 use Rattle.guards.proofs.faults.fault_for.Tie as tie
@@ -77,72 +78,72 @@ enum-told-10 : tie.Need-enum-told-10
 enum-told-10 c = search needs
 
 returns : tie.Need-returns
-unfolding faultFor
-returns c = λ k. rw (c .enum-told .given .1)
+unfolding FaultFor faultFor
+returns c = λ k s q. rw (c .enum-told .given .1)
 
 returns-2 : tie.Need-returns-2
-unfolding faultFor
-returns-2 c = λ k. rw (c .enum-told2 .given .1)
+unfolding FaultFor faultFor
+returns-2 c = λ k s q. rw (c .enum-told2 .given .1)
 
 returns-3 : tie.Need-returns-3
-unfolding faultFor
-returns-3 c = λ k. rw (c .before .before .command .given .1) (c .clock-fault .ensures)
+unfolding FaultFor faultFor
+returns-3 c = λ k s q. rw (c .before .before .command .given .1) (c .clock-fault .ensures)
 
 returns-4 : tie.Need-returns-4
-unfolding faultFor
-returns-4 c = λ k. rw (c .before .before .command2 .given .1) (c .unheld-fault .ensures)
+unfolding FaultFor faultFor
+returns-4 c = λ k s q. rw (c .before .before .command2 .given .1) (c .unheld-fault .ensures)
 
 returns-5 : tie.Need-returns-5
-unfolding faultFor
-returns-5 c = λ k. rw (c .before .before .command3 .given .1) (c .unheld-fault2 .ensures)
+unfolding FaultFor faultFor
+returns-5 c = λ k s q. rw (c .before .before .command3 .given .1) (c .unheld-fault2 .ensures)
 
 returns-6 : tie.Need-returns-6
-unfolding faultFor
-returns-6 c = λ k. rw (c .before .before .command4 .given .1) (c .async-fault .ensures k)
+unfolding FaultFor faultFor
+returns-6 c = λ k s q. rw (c .before .before .command4 .given .1) (c .async-fault .ensures k)
 
 returns-7 : tie.Need-returns-7
-unfolding faultFor
-returns-7 c = λ k. rw (c .enum-told3 .given .1)
+unfolding FaultFor faultFor
+returns-7 c = λ k s q. rw (c .enum-told3 .given .1)
 
 returns-8 : tie.Need-returns-8
-unfolding faultFor
-returns-8 c = λ k. rw (c .enum-told4 .given .1)
+unfolding FaultFor faultFor
+returns-8 c = λ k s q. rw (c .enum-told4 .given .1)
 
 returns-9 : tie.Need-returns-9
-unfolding faultFor
-returns-9 c = λ k. rw (c .enum-told5 .given .1)
+unfolding FaultFor faultFor
+returns-9 c = λ k s q. rw (c .enum-told5 .given .1)
 
 returns-10 : tie.Need-returns-10
-unfolding faultFor
-returns-10 c = λ k. rw (c .before .before .command5 .given .1) (c .offer-fault .ensures)
+unfolding FaultFor faultFor
+returns-10 c = λ k s q. rw (c .before .before .command5 .given .1) (c .offer-fault .ensures)
 
 returns-11 : tie.Need-returns-11
-unfolding faultFor
-returns-11 c = λ k. rw (c .before .before .command6 .given .1) (c .read-fault .ensures)
+unfolding FaultFor ReadFault faultFor
+returns-11 c = λ k s q. rw (c .before .before .command6 .given .1) (c .read-fault .ensures s q)
 
 returns-12 : tie.Need-returns-12
-unfolding faultFor
-returns-12 c = λ k. rw (c .before .before .command7 .given .1) (c .read-fault2 .ensures)
+unfolding FaultFor ReadFault faultFor
+returns-12 c = λ k s q. rw (c .before .before .command7 .given .1) (c .read-fault2 .ensures s q)
 
 returns-13 : tie.Need-returns-13
-unfolding faultFor
-returns-13 c = λ k. rw (c .enum-told6 .given .1)
+unfolding FaultFor faultFor
+returns-13 c = λ k s q. rw (c .enum-told6 .given .1)
 
 returns-14 : tie.Need-returns-14
-unfolding faultFor
-returns-14 c = λ k. rw (c .enum-told7 .given .1)
+unfolding FaultFor faultFor
+returns-14 c = λ k s q. rw (c .enum-told7 .given .1)
 
 returns-15 : tie.Need-returns-15
-unfolding faultFor
-returns-15 c = λ k. rw (c .enum-told8 .given .1)
+unfolding FaultFor faultFor
+returns-15 c = λ k s q. rw (c .enum-told8 .given .1)
 
 returns-16 : tie.Need-returns-16
-unfolding faultFor
-returns-16 c = λ k. rw (c .enum-told9 .given .1)
+unfolding FaultFor faultFor
+returns-16 c = λ k s q. rw (c .enum-told9 .given .1)
 
 returns-17 : tie.Need-returns-17
-unfolding faultFor
-returns-17 c = λ k. rw (c .enum-told10 .given .1)
+unfolding FaultFor faultFor
+returns-17 c = λ k s q. rw (c .enum-told10 .given .1)
 
 pub fault-for-spec : {M : Type 1} → statement M
 fault-for-spec =

@@ -12,10 +12,10 @@ use Rattle.guards.proofs.faults.in_own_finish.Statement.{statement}
 use Rattle.guards.proofs.faults.in_own_finish.Tie as tie
 
 abbrev Inv-loop : tie.InvT-loop
-Inv-loop table layout a depth d₀ d = (d ≤ depth - 1) × (Firm table layout a → someBelow d (finishes (programOf table) a) ≡ false)
+Inv-loop table starts a depth d₀ d = (d ≤ depth - 1) × (Firm table starts a → someBelow d (finishes (programOf table) a) ≡ false)
 
 abbrev μ-loop : tie.MeasureT-loop
-μ-loop table layout a depth d₀ d = depth - d
+μ-loop table starts a depth d₀ d = depth - d
 
 wide-requires : tie.Need-wide-requires Inv-loop μ-loop
 wide-requires c κs = tt
@@ -36,7 +36,7 @@ returns c = λ k.
     let at = c .before .before .before in
     let s = at .before in
     let w = s .wide .ensures .0 in
-    found (finishes (programOf (s .before .before .args .table .now)) (s .before .before .args .a)) (at .loop .d) (s .before .before .args .a .depth - 1) (omega arith) (c .before .finishes .ensures k (omega arith)) (c .if1 .taken)
+    found (finishes (programOf (s .before .before .before .args .table .now)) (s .before .before .before .args .a)) (at .loop .d) (s .before .before .before .args .a .depth - 1) (omega arith) (c .before .finishes .ensures k (omega arith)) (c .if1 .taken)
 
 add-d : tie.Need-add-d Inv-loop μ-loop
 add-d c = omega arith
@@ -49,7 +49,7 @@ loop-again c =
     let at = c .before .before .before in
     let s = at .before in
     let w = s .wide .ensures .0 in
-    (omega arith, λ k. passed (finishes (programOf (s .before .before .args .table .now)) (s .before .before .args .a)) (at .loop .d) (at .loop .inv .1 k) (c .before .finishes .ensures k (omega arith)) (c .if1 .left))
+    (omega arith, λ k. passed (finishes (programOf (s .before .before .before .args .table .now)) (s .before .before .before .args .a)) (at .loop .d) (at .loop .inv .1 k) (c .before .finishes .ensures k (omega arith)) (c .if1 .left))
 
 returns-2 : tie.Need-returns-2 Inv-loop μ-loop
 unfolding inOwnFinish
@@ -57,7 +57,7 @@ returns-2 c = λ k.
     let at = c .before in
     let s = at .before in
     let w = s .wide .ensures .0 in
-    none (finishes (programOf (s .before .before .args .table .now)) (s .before .before .args .a)) (at .loop .d) (s .before .before .args .a .depth - 1) (omega arith) (omega arith) (at .loop .inv .1 k)
+    none (finishes (programOf (s .before .before .before .args .table .now)) (s .before .before .before .args .a)) (at .loop .d) (s .before .before .before .args .a .depth - 1) (omega arith) (omega arith) (at .loop .inv .1 k)
 
 pub in-own-finish-spec : {M : Type 1} → statement M
 in-own-finish-spec =

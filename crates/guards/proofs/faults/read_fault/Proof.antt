@@ -1,8 +1,9 @@
 -- Each way is the definition's at the tests that led to it.
+use Prim.Native.Nat.{_-_}
 use mathlib.Core.Path.{sym, _∙_}
 use Rattle.rules.specs.Faults.{readFault}
-use Rattle.parts.specs.Shared.{lone}
-use Rattle.guards.proofs.Facing.{unbound-name, others, while-held, may-read}
+use Rattle.guards.specs.Met.{ReadFault}
+use Rattle.guards.proofs.Facing.{unbound-name, owner-read, others, while-held, may-read}
 use borrow.Author.Needs.{needs}
 use Rattle.guards.proofs.faults.read_fault.Statement.{statement}
 use Rattle.guards.proofs.faults.read_fault.Tie as tie
@@ -11,39 +12,49 @@ entry-of-requires : tie.Need-entry-of-requires
 entry-of-requires c κs = search needs
 
 returns : tie.Need-returns
-unfolding readFault
-returns c = let s = c .before .before .args in rw (unbound-name (s .a) (s .n) (c .before .entry-of .ensures) (c .if1 .taken))
+unfolding ReadFault readFault
+returns c = λ s q. let k = c .before .before .before .args in rw (unbound-name (k .a .accumulators) (k .n) (c .before .entry-of .ensures) (c .if1 .taken))
 
-sub-owner-of : tie.Need-sub-owner-of
-sub-owner-of c = search needs
+sub-accumulator-at : tie.Need-sub-accumulator-at
+sub-accumulator-at c = search needs
 
-owner-of-requires : tie.Need-owner-of-requires
-owner-of-requires c κs = search needs
+accumulator-at-requires : tie.Need-accumulator-at-requires
+accumulator-at-requires c κs = search needs
+
+wide-requires : tie.Need-wide-requires
+wide-requires c κs = search needs
 
 returns-2 : tie.Need-returns-2
-returns-2 c =
-    let j = c .before .before .before in
-    let s = j .before .args in
-    others (lone (s .e)) (s .i) (s .a) (s .n) (j .entry-of .ensures) (c .before .before .if1 .left) (c .before .owner-of .ensures) (c .if2 .taken)
+unfolding ReadFault
+returns-2 c = λ s q.
+    let h = c .before .before in
+    let j = h .before .before in
+    let k = j .before .before .args in
+    let own = owner-read s (j .entry-of .result - 1) q (h .accumulator-at .ensures) (c .before .wide .ensures .0) in
+    others s (k .i) (k .a) (k .n) (j .entry-of .ensures) (h .before .if1 .left) own (c .if2 .taken)
 
 holds-some-requires : tie.Need-holds-some-requires
 holds-some-requires c κs = search needs
 
 returns-3 : tie.Need-returns-3
-returns-3 c =
-    let k = c .before .before .before in
-    let j = k .before .before in
-    let s = j .before .args in
-    while-held (lone (s .e)) (s .i) (s .a) (s .n) (j .entry-of .ensures) (k .before .if1 .left) (k .owner-of .ensures) (c .before .before .if2 .left)
-    (sym (c .before .holds-some .ensures) ∙ c .if3 .taken)
+unfolding ReadFault
+returns-3 c = λ s q.
+    let w = c .before .before .before in
+    let h = w .before in
+    let j = h .before .before in
+    let k = j .before .before .args in
+    let own = owner-read s (j .entry-of .result - 1) q (h .accumulator-at .ensures) (w .wide .ensures .0) in
+    while-held s (k .i) (k .a) (k .n) (j .entry-of .ensures) (h .before .if1 .left) own (c .before .before .if2 .left) (sym (c .before .holds-some .ensures) ∙ c .if3 .taken)
 
 returns-4 : tie.Need-returns-4
-returns-4 c =
-    let k = c .before .before .before in
-    let j = k .before .before in
-    let s = j .before .args in
-    may-read (lone (s .e)) (s .i) (s .a) (s .n) (j .entry-of .ensures) (k .before .if1 .left) (k .owner-of .ensures) (c .before .before .if2 .left)
-    (sym (c .before .holds-some .ensures) ∙ c .if3 .left)
+unfolding ReadFault
+returns-4 c = λ s q.
+    let w = c .before .before .before in
+    let h = w .before in
+    let j = h .before .before in
+    let k = j .before .before .args in
+    let own = owner-read s (j .entry-of .result - 1) q (h .accumulator-at .ensures) (w .wide .ensures .0) in
+    may-read s (k .i) (k .a) (k .n) (j .entry-of .ensures) (h .before .if1 .left) own (c .before .before .if2 .left) (sym (c .before .holds-some .ensures) ∙ c .if3 .left)
 
 pub read-fault-spec : {M : Type 1} → statement M
 read-fault-spec =
@@ -51,8 +62,9 @@ read-fault-spec =
     (tie.spec
     entry-of-requires
     returns
-    sub-owner-of
-    owner-of-requires
+    sub-accumulator-at
+    accumulator-at-requires
+    wide-requires
     returns-2
     holds-some-requires
     returns-3

@@ -1,7 +1,7 @@
 -- The set so far has a bit for each activity passed that can step.
 use Prim.Native.Nat.{_+_, _-_, _≤_, _<_}
 use native.Mathlib.Omega.{arith}
-use mathlib.Core.Path.{_≡_, refl, sym, _∙_, subst}
+use mathlib.Core.Path.{_≡_, refl, sym, _∙_}
 use mathlib.Core.Logic.{⊎-elim}
 use mathlib.Core.Bool.{_&&_}
 use borrow.Author.Tests.{eqb-true, eqb-false}
@@ -12,8 +12,7 @@ use Rattle.rules.specs.Steps.{canStep}
 use Rattle.rules.specs.Tree.{here}
 use Rattle.rules.specs.Waiting.{waitsAt}
 use Rattle.parts.specs.Shared.{sharedOf}
-use Rattle.parts.specs.declared.shared.Shared.{Shared}
-use Rattle.guards.specs.Views.{Fit, Sees, Viewed}
+use Rattle.guards.specs.Views.{Fit, Viewed}
 use Rattle.guards.proofs.Facing.{able, rooted, placed}
 use Rattle.guards.proofs.Views.{refusal-here, wait-asked, wait-unasked}
 use Rattle.guards.proofs.Readies.{bit-set, bit-left, none-after}
@@ -21,31 +20,27 @@ use Rattle.guards.proofs.look.ready_set.Statement.{statement}
 use Rattle.guards.proofs.look.ready_set.Tie as tie
 
 abbrev Inv-loop : tie.InvT-loop
-Inv-loop table layout s e made set₀ i₀ set i = (i ≤ made) × (Fit table layout s → set ≡ bitsBelow i (canStep (programOf table) s))
+Inv-loop table starts s made accs set₀ i₀ set i = (i ≤ made) × (Fit table starts s → set ≡ bitsBelow i (canStep (programOf table) s))
 
 abbrev μ-loop : tie.MeasureT-loop
-μ-loop table layout s e made set₀ i₀ set i = made - i
+μ-loop table starts s made accs set₀ i₀ set i = made - i
 
 -- Where the loop stands.
 abbrev start : tie.At-loop Inv-loop μ-loop → tie.Start Inv-loop μ-loop
-start c = c .before .before .before .before .before
+start c = c .before .before .before .before .before .before
 
 -- An activity was looked at, and asked whether it waits.
 abbrev at : tie.Joined2 Inv-loop μ-loop → tie.At-loop Inv-loop μ-loop
 at c = c .before .before .before .before
 
-viewed : (c : tie.Joined2 Inv-loop μ-loop) → Fit (start (at c) .args .table .now) (start (at c) .args .layout) (start (at c) .args .t3)
-    → Viewed (programOf (start (at c) .args .table .now)) (sharedOf (start (at c) .args .t3)) (at c .loop .i) (act (start (at c) .args .t3) (at c .loop .i)) (c .before .look .result) (c .if2 .waits)
+viewed : (c : tie.Joined2 Inv-loop μ-loop) → Fit (start (at c) .args .table .now) (start (at c) .args .starts .now) (start (at c) .args .t3)
+    → Viewed (programOf (start (at c) .args .table .now)) (start (at c) .args .t3 .accs) (sharedOf (start (at c) .args .t3)) (at c .loop .i) (act (start (at c) .args .t3) (at c .loop .i)) (c .before .look .result) (c .if2 .waits)
     (start (at c) .args .t3 .acts)
 viewed c fit =
     let k = at c in
-    let n = k .before .before .wide .ensures .0 in
+    let n = k .before .before .before .wide .ensures .0 in
     let made : k .loop .i < start k .args .t3 .activities = omega arith in
-    let s =
-    subst
-    (λ (e : Shared). Sees (programOf (start k .args .table .now)) e (k .loop .i) (act (start k .args .t3) (k .loop .i)) (c .before .look .result))
-    (k .before .before .before .shared-of .ensures)
-    (c .before .look .ensures (able fit made)) in
+    let s = c .before .look .ensures (able fit made) in
     record {
       made = made;
       own = refl;
@@ -56,9 +51,6 @@ viewed c fit =
           (λ w. wait-unasked _ (w .0 .left) (w .1))
           (c .if2 .came);
     }
-
-shared-of-requires : tie.Need-shared-of-requires Inv-loop μ-loop
-shared-of-requires c κs = tt
 
 wide-requires : tie.Need-wide-requires Inv-loop μ-loop
 wide-requires c κs = tt
@@ -112,7 +104,7 @@ loop-again c =
 returns-2 : tie.Need-returns-2 Inv-loop μ-loop
 returns-2 c = λ fit.
     let k = c .before in
-    let e = k .before .before .wide .ensures .0 in
+    let e = k .before .before .before .wide .ensures .0 in
     let s = start k .args in
     let n : k .loop .i ≡ s .t3 .activities = omega arith in
     let m : s .t3 .activities + (64 - s .t3 .activities) ≡ 64 = omega arith in
@@ -124,7 +116,6 @@ ready-set-spec =
     (tie.spec
     Inv-loop
     μ-loop
-    shared-of-requires
     wide-requires
     returns
     loop-holds

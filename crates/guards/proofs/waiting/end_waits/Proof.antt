@@ -16,7 +16,7 @@ in-finish-body-requires c κs = search needs
 returns : tie.Need-returns
 unfolding waitsAt waitsFor
 returns c = λ k.
-    let s = c .before .before .before .args in
+    let s = c .before .before .before .before .args in
     guard-shut (s .s .activities) (waitsFor (programOf (s .table .now)) (s .s) (s .i) (s .a) End) (unendedInside (s .s) (s .i) (top (s .a) .first)) (λ x. refl)
     (c .before .in-finish-body .ensures (firm-placed k)) (not-true _ (c .if1 .taken))
 
@@ -30,7 +30,7 @@ returns-2 : tie.Need-returns-2
 unfolding waitsAt waitsFor
 returns-2 c = λ k.
     let j = c .before .before .before in
-    let s = j .before .before .args in
+    let s = j .before .before .before .args in
     guard-open (s .s .activities) (waitsFor (programOf (s .table .now)) (s .s) (s .i) (s .a) End) (unendedInside (s .s) (s .i) (top (s .a) .first)) (λ x. refl)
     (j .in-finish-body .ensures (firm-placed k)) (not-false _ (c .before .before .if1 .left)) (c .someone-inside .ensures (k .rooted) ∙ rw (c .before .top-of .ensures))
 

@@ -20,28 +20,29 @@ use Rattle.parts.specs.declared.shared.Shared.{Shared}
 use Rattle.guards.proofs.Facing.{able, rooted, placed, unspawned}
 use Rattle.machine.proofs.Turns.{turned-down}
 use Rattle.guards.proofs.Views.{wait-asked, wait-unasked}
-use Rattle.machine.proofs.Dues.{turn-spawned, turn-alone}
+use Rattle.machine.proofs.Dues.{entered-one, entered-none, rewritten, unwritten, stored}
 use Rattle.machine.proofs.Runs.{Under, under-start, fit-here, under-advance, under-end}
 use Rattle.machine.proofs.advance.follow.Statement.{statement}
 use Rattle.machine.proofs.advance.follow.Tie as tie
 
 abbrev Inv-loop : tie.InvT-loop
-Inv-loop table order answers₀ layout work acts₀ shared₀ k₀ answers acts shared k = Under table order answers₀ (whole acts₀ shared₀) (whole acts shared) answers k
+Inv-loop table starts work order answers₀ acts₀ accs₀ shared₀ k₀ answers acts accs shared k = Under table order answers₀ (whole acts₀ accs₀ shared₀) (whole acts accs shared) answers k
 
 abbrev μ-loop : tie.MeasureT-loop
-μ-loop table order answers₀ layout work acts₀ shared₀ k₀ answers acts shared k = length order - k
+μ-loop table starts work order answers₀ acts₀ accs₀ shared₀ k₀ answers acts accs shared k = length order - k
 
 -- WHERE THE LOOP STANDS
 
 abbrev start : tie.At-loop Inv-loop μ-loop → tie.Start Inv-loop μ-loop
-start c = c .before .before .before .before .before .before .before
+start c = c .before .before .before .before .before .before .before .before
 
 followable : (c : tie.At-loop Inv-loop μ-loop)
-    → Followable (start c .args .table .now) (start c .args .known .layout) (start c .args .known .work) (whole (start c .args .s .acts) (c .before .shared-of .result)) (start c .args .order .now) (length (start c .args .answers .now))
+    → Followable (start c .args .table .now) (start c .args .starts .now) (start c .args .work) (whole (start c .args .s .acts) (start c .args .s .accs) (c .before .shared-of .result)) (start c .args .order .now)
+    (length (start c .args .answers .now))
 followable c =
     let s = start c .args in
     subst
-    (λ (e : Shared). Followable (s .table .now) (s .known .layout) (s .known .work) (whole (s .s .acts) e) (s .order .now) (length (s .answers .now)))
+    (λ (e : Shared). Followable (s .table .now) (s .starts .now) (s .work) (whole (s .s .acts) (s .s .accs) e) (s .order .now) (length (s .answers .now)))
     (sym (c .before .shared-of .ensures))
     (start c .pre)
 
@@ -49,7 +50,7 @@ followable c =
 abbrev at : tie.Then1 Inv-loop μ-loop → tie.At-loop Inv-loop μ-loop
 at c = c .before .before .before .before .before
 
-fitted : (c : tie.Then1 Inv-loop μ-loop) → Fit (start (at c) .args .table .now) (start (at c) .args .known .layout) (whole (at c .loop .acts) (at c .loop .shared))
+fitted : (c : tie.Then1 Inv-loop μ-loop) → Fit (start (at c) .args .table .now) (start (at c) .args .starts .now) (whole (at c .loop .acts) (at c .loop .accs) (at c .loop .shared))
 fitted c = fit-here (followable (at c)) (at c .loop .inv) (c .before .before .before .before .loop-test .taken)
 
 made : (c : tie.Then1 Inv-loop μ-loop) → (c .before .before .wide .result < at c .loop .shared .activities) × (c .before .before .wide .result < 64)
@@ -61,21 +62,21 @@ made c =
 
 -- It was looked at.
 seen-here : (c : tie.After-look Inv-loop μ-loop)
-    → Sees (programOf (start (at (c .before .before)) .args .table .now)) (at (c .before .before) .loop .shared) (c .before .before .before .before .wide .result)
-    (act (whole (at (c .before .before) .loop .acts) (at (c .before .before) .loop .shared)) (c .before .before .before .before .wide .result)) (c .look .result)
+    → Sees (programOf (start (at (c .before .before)) .args .table .now)) (at (c .before .before) .loop .accs) (c .before .before .before .before .wide .result)
+    (act (whole (at (c .before .before) .loop .acts) (at (c .before .before) .loop .accs) (at (c .before .before) .loop .shared)) (c .before .before .before .before .wide .result)) (c .look .result)
 seen-here c = c .look .ensures (able (fitted (c .before .before)) (made (c .before .before) .0))
 
 -- Whom it waits for can be asked.
-placed-here : (c : tie.After-look Inv-loop μ-loop) → c .look .result .asks ≡ true → {s : State} → s ≡ whole (at (c .before .before) .loop .acts) (at (c .before .before) .loop .shared)
-    → Placed (start (at (c .before .before)) .args .table .now) (start (at (c .before .before)) .args .known .layout) s
-    (act (whole (at (c .before .before) .loop .acts) (at (c .before .before) .loop .shared)) (c .before .before .before .before .wide .result))
+placed-here : (c : tie.After-look Inv-loop μ-loop) → c .look .result .asks ≡ true → {s : State} → s ≡ whole (at (c .before .before) .loop .acts) (at (c .before .before) .loop .accs) (at (c .before .before) .loop .shared)
+    → Placed (start (at (c .before .before)) .args .table .now) (start (at (c .before .before)) .args .starts .now) s
+    (act (whole (at (c .before .before) .loop .acts) (at (c .before .before) .loop .accs) (at (c .before .before) .loop .shared)) (c .before .before .before .before .wide .result))
 placed-here c t e = rw e (placed (fitted (c .before .before)) (made (c .before .before) .0) (seen-here c .asking t .0))
 
 -- It was asked whether it waits.
 due : (c : tie.Joined2 Inv-loop μ-loop)
-    → DueAt (start (at (c .before .before .before)) .args .table .now) (start (at (c .before .before .before)) .args .known .layout) (start (at (c .before .before .before)) .args .known .work)
-    (at (c .before .before .before) .loop .shared) (c .before .before .before .before .before .wide .result)
-    (act (whole (at (c .before .before .before) .loop .acts) (at (c .before .before .before) .loop .shared)) (c .before .before .before .before .before .wide .result)) (c .before .look .result) (c .if2 .waits)
+    → DueAt (start (at (c .before .before .before)) .args .table .now) (start (at (c .before .before .before)) .args .starts .now) (start (at (c .before .before .before)) .args .work)
+    (at (c .before .before .before) .loop .accs) (at (c .before .before .before) .loop .shared) (c .before .before .before .before .before .wide .result)
+    (act (whole (at (c .before .before .before) .loop .acts) (at (c .before .before .before) .loop .accs) (at (c .before .before .before) .loop .shared)) (c .before .before .before .before .before .wide .result)) (c .before .look .result) (c .if2 .waits)
     (at (c .before .before .before) .loop .acts)
 due c =
     let k = c .before .before .before in
@@ -125,7 +126,7 @@ waits-at-requires : tie.Need-waits-at-requires Inv-loop μ-loop
 waits-at-requires c κs = tt
 
 turn-requires : tie.Need-turn-requires Inv-loop μ-loop
-turn-requires c κs = record { acts = at (c .before .before .before) .loop .acts; due = due c }
+turn-requires c κs = record { acts = at (c .before .before .before) .loop .acts; accs = at (c .before .before .before) .loop .accs; due = due c }
 
 mul-acts : tie.Need-mul-acts Inv-loop μ-loop
 mul-acts c = let m = made (c .before .before .before .before .before) in omega arith
@@ -142,7 +143,7 @@ unfolding Turned
 below c =
     let j = c .before .before .before .before in
     let e = j .before .before .before .before .wide2 .ensures .0 in
-    let l = c .before .before .before .turn .ensures _ (due j) .room (c .before .if3 .taken) in
+    let l = c .before .before .before .turn .ensures _ _ (due j) .room (c .before .if3 .taken) in
     omega arith
 
 mul-acts-2 : tie.Need-mul-acts-2 Inv-loop μ-loop
@@ -150,6 +151,9 @@ mul-acts-2 c = let m = below c in omega arith
 
 array-set-from-acts-2 : tie.Need-array-set-from-acts-2 Inv-loop μ-loop
 array-set-from-acts-2 c = below c
+
+written-requires : tie.Need-written-requires Inv-loop μ-loop
+written-requires c κs = made (c .before .before .before .before .before .before .before) .1
 
 slice-write-answers : tie.Need-slice-write-answers Inv-loop μ-loop
 slice-write-answers c =
@@ -159,16 +163,16 @@ slice-write-answers c =
     omega arith
 
 add-k : tie.Need-add-k Inv-loop μ-loop
-add-k c = let k = c .before .before .before .before .before in omega (arith, start k .good .1 .1 .1 .1 .0)
+add-k c = let k = c .before .before .before .before .before in omega (arith, start k .good .1 .1 .1 .1 .1 .0)
 
 loop-less : tie.Need-loop-less Inv-loop μ-loop
 loop-less c = omega arith
 
 -- Number 14.
 not-made : (c : tie.Else1 Inv-loop μ-loop)
-    → stepped (Refused 14) (whole (c .before .before .before .before .before .loop .acts) (c .before .before .before .before .before .loop .shared))
+    → stepped (Refused 14) (whole (c .before .before .before .before .before .loop .acts) (c .before .before .before .before .before .loop .accs) (c .before .before .before .before .before .loop .shared))
     ≡ advance base (programOf (start (c .before .before .before .before .before) .args .table .now))
-    (whole (c .before .before .before .before .before .loop .acts) (c .before .before .before .before .before .loop .shared)) (c .before .before .wide .result)
+    (whole (c .before .before .before .before .before .loop .acts) (c .before .before .before .before .before .loop .accs) (c .before .before .before .before .before .loop .shared)) (c .before .before .wide .result)
 not-made c = let e = c .before .wide2 .ensures .0 in turned-down _ _ _ (unspawned _ _ _ (omega arith)) (λ z. omega arith)
 
 loop-again : tie.Need-loop-again Inv-loop μ-loop
@@ -179,18 +183,18 @@ loop-again c =
     (⊎-elim
     (λ w.
     let j : tie.Joined2 Inv-loop μ-loop = record { before = record { before = record { before = record { before = c .before; if1 = w .0 }; a = w .1 }; look = w .2 }; if2 = w .3 } in
-    let d = w .4 .ensures _ (due j) in
-    ⊎-elim
-    (λ v. turn-spawned d (w .9) _ (v .1 .ensures) (v .0 .taken) (c .before .wide2 .ensures .0) (w .8 ∙ v .2))
-    (λ v. turn-alone d (w .9) (v .0 .left) (w .8 ∙ v .1))
-    (w .6 .came))
-    (λ w. rw (w .1, w .2) (ap (λ (x : Stepped). x .state) (not-made (record { before = c .before; if1 = w .0 }))))
+    let d = w .4 .ensures _ _ (due j) in
+    stored d
+    (⊎-elim (λ v. entered-one _ (v .1 .ensures) (v .0 .taken) (c .before .wide2 .ensures .0) (w .9 ∙ v .2)) (λ v. entered-none (v .0 .left) (w .9 ∙ v .1)) (w .6 .came))
+    (⊎-elim (λ v. rewritten _ _ (v .0 .taken) (w .10 ∙ v .2 ∙ v .1 .ensures)) (λ v. unwritten _ _ (v .0 .left) (w .10 ∙ v .1)) (w .7 .came))
+    (w .11))
+    (λ w. rw (w .1, w .2, w .3) (ap (λ (x : Stepped). x .state) (not-made (record { before = c .before; if1 = w .0 }))))
     (c .if1 .came))
     (⊎-elim
     (λ w.
     let j : tie.Joined2 Inv-loop μ-loop = record { before = record { before = record { before = record { before = c .before; if1 = w .0 }; a = w .1 }; look = w .2 }; if2 = w .3 } in
-    w .10 ∙ w .4 .ensures _ (due j) .number)
-    (λ w. w .3 ∙ ap (λ (x : Stepped). answerNumber (x .answer)) (not-made (record { before = c .before; if1 = w .0 })))
+    w .12 ∙ w .4 .ensures _ _ (due j) .number)
+    (λ w. w .4 ∙ ap (λ (x : Stepped). answerNumber (x .answer)) (not-made (record { before = c .before; if1 = w .0 })))
     (c .if1 .came))
 
 whole-requires-2 : tie.Need-whole-requires-2 Inv-loop μ-loop
@@ -205,8 +209,8 @@ returns c =
     let s = start k .args in
     let e = under-end (k .loop .inv) (c .before .loop-test .left) in
     let q = k .before .shared-of .ensures in (
-      c .whole2 .ensures ∙ e .0 ∙ ap (λ (x : Shared). runFrom base (s .table .now) (whole (s .s .acts) x) (s .order .now)) q,
-      e .1 ∙ ap (λ (x : Shared). answeredFrom (s .table .now) (whole (s .s .acts) x) (s .order .now) (s .answers .now)) q,
+      c .whole2 .ensures ∙ e .0 ∙ ap (λ (x : Shared). runFrom base (s .table .now) (whole (s .s .acts) (s .s .accs) x) (s .order .now)) q,
+      e .1 ∙ ap (λ (x : Shared). answeredFrom (s .table .now) (whole (s .s .acts) (s .s .accs) x) (s .order .now) (s .answers .now)) q,
     )
 
 pub follow-spec : {M : Type 1} → statement M
@@ -231,6 +235,7 @@ follow-spec =
     child-of-requires
     mul-acts-2
     array-set-from-acts-2
+    written-requires
     slice-write-answers
     add-k
     loop-less

@@ -8,9 +8,9 @@ use lib.ListN.{length, getD, take, drop}
 use Rattle.program.specs.Bodies.{programOf}
 use Rattle.program.specs.Reading.{read}
 use Rattle.program.specs.declared.command.Command.{Command}
-use Rattle.program.specs.declared.scan.Layout.{Layout}
 use Rattle.program.specs.declared.command.Command.the-variants.{End}
 use Rattle.program.specs.declared.reading.Reading.the-variants.{Whole}
+use Rattle.program.proofs.LocatedBytes.{length-starts}
 use Rattle.program.proofs.RangeLaws.{tail-part}
 use Rattle.rules.specs.Tree.{here}
 use Rattle.effects.specs.Cells.{FollowsIn, FollowsAll}
@@ -20,10 +20,10 @@ use Rattle.machine.proofs.cells.touch_all.Statement.{statement}
 use Rattle.machine.proofs.cells.touch_all.Tie as tie
 
 abbrev Inv-loop : tie.InvT-loop
-Inv-loop table k body first offset count touched₀ j₀ touched j = (j ≤ k) × (count ≡ k) × FollowsAll touched₀ (take j (innerAt (programOf table) body offset)) touched
+Inv-loop table starts k body first offset count touched₀ j₀ touched j = (j ≤ k) × (count ≡ k) × FollowsAll touched₀ (take j (innerAt (programOf table) body offset)) touched
 
 abbrev μ-loop : tie.MeasureT-loop
-μ-loop table k body first offset count touched₀ j₀ touched j = k - j
+μ-loop table starts k body first offset count touched₀ j₀ touched j = k - j
 
 -- The frame's place.
 small : (c : tie.Start Inv-loop μ-loop) → c .args .f .body < 16
@@ -35,7 +35,7 @@ offset-here c = offset-small (c .args .table .now) (c .pre .0 .scanned) (c .args
 few : (c : tie.Start Inv-loop μ-loop) → c .args .k ≤ 8
 few c = atom-few (c .args .table .now) (c .args .f) (c .pre .1)
 
-inside-here : (c : tie.Start Inv-loop μ-loop) → getD (c .args .t2 .starts) (c .args .f .body) 0 ≤ length (c .args .table .now)
+inside-here : (c : tie.Start Inv-loop μ-loop) → getD (c .args .starts .now) (c .args .f .body) 0 ≤ length (c .args .table .now)
 inside-here c = rw (c .pre .0 .laid) (code-inside (c .args .table .now) (c .pre .0 .scanned) (c .args .f) (c .pre .1 .placed))
 
 -- The places before a reading: the loop's head and the start; and the commands that follow.
@@ -43,7 +43,7 @@ abbrev at : tie.After-fetch Inv-loop μ-loop → tie.At-loop Inv-loop μ-loop
 at c = c .before .before .before
 
 abbrev start : tie.After-fetch Inv-loop μ-loop → tie.Start Inv-loop μ-loop
-start c = at c .before .before .before .before .before .before
+start c = at c .before .before .before .before .before .before .before
 
 abbrev inner : tie.Start Inv-loop μ-loop → List Command
 inner c = here (programOf (c .args .table .now)) (c .args .f) .inner
@@ -63,8 +63,8 @@ read-there c =
     let f = s .args .f in
     let j = at c .loop .j in
     c .fetch .ensures
-    ∙ ap (λ (u : List ℕ). read (drop (f .offset + 2 + 2 * j) u)) (tail-part t (getD (s .args .t2 .starts) (f .body) 0))
-    ∙ ap (λ (l : Layout). read (drop (f .offset + 2 + 2 * j) (drop (getD (l .starts) (f .body) 0) t))) (s .pre .0 .laid)
+    ∙ ap (λ (u : List ℕ). read (drop (f .offset + 2 + 2 * j) u)) (tail-part t (getD (s .args .starts .now) (f .body) 0))
+    ∙ ap (λ (l : List ℕ). read (drop (f .offset + 2 + 2 * j) (drop (getD l (f .body) 0) t))) (s .pre .0 .laid)
     ∙ rw (atom-width t f (s .pre .1)) at (read-inner t (s .pre .0 .scanned) f (s .pre .1 .placed) j (turn-inner c))
 
 -- The command that was read is the next of them.
@@ -76,10 +76,14 @@ cast-body : tie.Need-cast-body Inv-loop μ-loop
 cast-body c = search needs
 
 mul-first : tie.Need-mul-first Inv-loop μ-loop
-mul-first c = let q = small (c .before .before) in omega arith
+mul-first c = let q = small (c .before .before .before) in omega arith
 
-element-copy-out-first : tie.Need-element-copy-out-first Inv-loop μ-loop
-element-copy-out-first c = small (c .before .before)
+shared-slice-read-first : tie.Need-shared-slice-read-first Inv-loop μ-loop
+shared-slice-read-first c =
+    let s = c .before .before .before .before in
+    let q = small s in
+    let long = length-starts (s .args .table .now) (s .pre .0 .scanned) in
+    rw (s .pre .0 .laid) (omega (arith, q, long))
 
 cast-offset : tie.Need-cast-offset Inv-loop μ-loop
 cast-offset c = search needs
@@ -89,26 +93,26 @@ wide-requires c κs = tt
 
 loop-holds : tie.Need-loop-holds Inv-loop μ-loop
 loop-holds c =
-    let s = c .before .before .before .before .before in
+    let s = c .before .before .before .before .before .before in
     (omega arith, c .wide .ensures .0, follows-none (s .args .t) (innerAt (programOf (s .args .table .now)) (s .args .f .body) (s .args .f .offset)))
 
 sub-fetch : tie.Need-sub-fetch Inv-loop μ-loop
-sub-fetch c = inside-here (c .before .before .before .before .before .before .before)
+sub-fetch c = inside-here (c .before .before .before .before .before .before .before .before)
 
 part-fetch-start : tie.Need-part-fetch-start Inv-loop μ-loop
-part-fetch-start c = inside-here (c .before .before .before .before .before .before .before)
+part-fetch-start c = inside-here (c .before .before .before .before .before .before .before .before)
 
 part-fetch-end : tie.Need-part-fetch-end Inv-loop μ-loop
 part-fetch-end c = search needs
 
 add-fetch : tie.Need-add-fetch Inv-loop μ-loop
-add-fetch c = let q = offset-here (c .before .before .before .before .before .before .before .before) in omega arith
+add-fetch c = let q = offset-here (c .before .before .before .before .before .before .before .before .before) in omega arith
 
 mul-fetch : tie.Need-mul-fetch Inv-loop μ-loop
-mul-fetch c = let q = few (c .before .before .before .before .before .before .before .before) in omega arith
+mul-fetch c = let q = few (c .before .before .before .before .before .before .before .before .before) in omega arith
 
 add-fetch-2 : tie.Need-add-fetch-2 Inv-loop μ-loop
-add-fetch-2 c = let q = offset-here (c .before .before .before .before .before .before .before .before) in let r = few (c .before .before .before .before .before .before .before .before) in omega arith
+add-fetch-2 c = let q = offset-here (c .before .before .before .before .before .before .before .before .before) in let r = few (c .before .before .before .before .before .before .before .before .before) in omega arith
 
 fetch-requires : tie.Need-fetch-requires Inv-loop μ-loop
 fetch-requires c κs = tt
@@ -123,7 +127,7 @@ touch-requires : tie.Need-touch-requires Inv-loop μ-loop
 touch-requires c κs = tt
 
 add-j : tie.Need-add-j Inv-loop μ-loop
-add-j c = let q = few (c .before .before .before .before .before .before .before .before .before .before .before .before .before) in omega arith
+add-j c = let q = few (c .before .before .before .before .before .before .before .before .before .before .before .before .before .before) in omega arith
 
 loop-less : tie.Need-loop-less Inv-loop μ-loop
 loop-less c = let q = turn (c .before .before .before .before) in omega arith
@@ -140,7 +144,7 @@ loop-again c =
 
 returns-2 : tie.Need-returns-2 Inv-loop μ-loop
 returns-2 c =
-    let s = c .before .before .before .before .before .before .before in
+    let s = c .before .before .before .before .before .before .before .before in
     let l = inner-length _ _ (s .pre .1) in
     let n = c .before .loop .inv .1 in
     let m = c .loop-test .left in
@@ -154,7 +158,7 @@ touch-all-spec =
     μ-loop
     cast-body
     mul-first
-    element-copy-out-first
+    shared-slice-read-first
     cast-offset
     wide-requires
     loop-holds

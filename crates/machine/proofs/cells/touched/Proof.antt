@@ -2,7 +2,7 @@
 use mathlib.Core.Path.{_≡_, refl, sym, _∙_}
 use lib.ListN.{length}
 use Rattle.rules.specs.Effects.{past, pushed, effectOf}
-use Rattle.machine.proofs.Storing.{ranged, end-register, next-register, repeat-register, storeless, touched-cell, touched-atom}
+use Rattle.machine.proofs.Storing.{ranged, end-register, next-register, repeat-register, storeless, touched-cell, touched-atom, reads-value}
 use borrow.Author.Needs.{needs}
 use Rattle.machine.proofs.cells.touched.Statement.{statement}
 use Rattle.machine.proofs.cells.touched.Tie as tie
@@ -40,114 +40,107 @@ enum-told-9 c = search needs
 enum-told-10 : tie.Need-enum-told-10
 enum-told-10 c = search needs
 
-enum-known-command : tie.Need-enum-known-command
-enum-known-command c = search needs
-
-number-under-requires : tie.Need-number-under-requires
-number-under-requires c κs = tt
-
-accumulator-at-requires : tie.Need-accumulator-at-requires
-accumulator-at-requires c κs = tt
-
 enum-told-11 : tie.Need-enum-told-11
 enum-told-11 c = search needs
-
-enum-known-command-2 : tie.Need-enum-known-command-2
-enum-known-command-2 c = search needs
 
 enum-told-12 : tie.Need-enum-told-12
 enum-told-12 c = search needs
 
-touch-requires : tie.Need-touch-requires
-touch-requires c κs = tt
+enum-known-command : tie.Need-enum-known-command
+enum-known-command c = search needs
 
 enum-told-13 : tie.Need-enum-told-13
 enum-told-13 c = search needs
 
-touch-requires-2 : tie.Need-touch-requires-2
-touch-requires-2 c κs = tt
+touch-requires : tie.Need-touch-requires
+touch-requires c κs = search needs
 
 enum-told-14 : tie.Need-enum-told-14
 enum-told-14 c = search needs
 
-touch-requires-3 : tie.Need-touch-requires-3
-touch-requires-3 c κs = tt
+touch-requires-2 : tie.Need-touch-requires-2
+touch-requires-2 c κs = search needs
 
-enum-known-command-3 : tie.Need-enum-known-command-3
-enum-known-command-3 c = search needs
+enum-told-15 : tie.Need-enum-told-15
+enum-told-15 c = search needs
+
+touch-requires-3 : tie.Need-touch-requires-3
+touch-requires-3 c κs = search needs
+
+enum-known-command-2 : tie.Need-enum-known-command-2
+enum-known-command-2 c = search needs
 
 atom-requires : tie.Need-atom-requires
 atom-requires c κs =
     let h = c .before .before .before .before .before .before .pre in
-    record { known = h .known; stack = h .stack; stands = sym (c .before .command3 .given .1) ∙ h .stands }
+    record { known = h .known; stack = h .stack; stands = sym (c .before .command2 .given .1) ∙ h .stands }
 
 returns : tie.Need-returns
 unfolding effectOf past pushed
-returns c = storeless _ _ _ _ (c .enum-told .given .1) _ (λ i. end-register _ _) (λ i. refl)
+returns c = storeless _ _ _ _ (c .enum-told .given .1) _ _ (λ accs i. end-register _ _) (λ accs i. refl)
 
 returns-2 : tie.Need-returns-2
 unfolding effectOf past pushed
-returns-2 c = storeless _ _ _ _ (c .enum-told2 .given .1) _ (λ i. next-register _ _) (λ i. refl)
+returns-2 c = storeless _ _ _ _ (c .enum-told2 .given .1) _ _ (λ accs i. next-register _ _) (λ accs i. refl)
 
 returns-3 : tie.Need-returns-3
 unfolding effectOf past pushed
-returns-3 c = storeless _ _ _ _ (c .enum-told3 .given .1) _ (λ i. refl) (λ i. refl)
+returns-3 c = storeless _ _ _ _ (c .enum-told3 .given .1) _ _ (λ accs i. refl) (λ accs i. refl)
 
 returns-4 : tie.Need-returns-4
 unfolding effectOf past pushed
-returns-4 c = storeless _ _ _ _ (c .enum-told4 .given .1) _ (λ i. refl) (λ i. refl)
+returns-4 c = storeless _ _ _ _ (c .enum-told4 .given .1) _ _ (λ accs i. refl) (λ accs i. refl)
 
 returns-5 : tie.Need-returns-5
 unfolding effectOf past pushed
-returns-5 c = storeless _ _ _ _ (c .enum-told5 .given .1) _ (λ i. refl) (λ i. refl)
+returns-5 c = storeless _ _ _ _ (c .enum-told5 .given .1) _ _ (λ accs i. refl) (λ accs i. refl)
 
 returns-6 : tie.Need-returns-6
 unfolding effectOf past pushed
-returns-6 c = storeless _ _ _ _ (c .enum-told6 .given .1) _ (λ i. refl) (λ i. refl)
+returns-6 c = storeless _ _ _ _ (c .enum-told6 .given .1) _ _ (λ accs i. refl) (λ accs i. refl)
 
 returns-7 : tie.Need-returns-7
 unfolding effectOf past pushed
-returns-7 c = storeless _ _ _ _ (c .enum-told7 .given .1) _ (λ i. refl) (λ i. refl)
+returns-7 c = storeless _ _ _ _ (c .enum-told7 .given .1) _ _ (λ accs i. refl) (λ accs i. refl)
 
 returns-8 : tie.Need-returns-8
 unfolding effectOf past pushed
-returns-8 c = storeless _ _ _ _ (c .enum-told8 .given .1) _ (λ i. repeat-register _ _ _ _) (λ i. refl)
+returns-8 c = storeless _ _ _ _ (c .enum-told8 .given .1) _ _ (λ accs i. repeat-register _ _ _ _) (λ accs i. refl)
 
 returns-9 : tie.Need-returns-9
 unfolding effectOf past pushed
-returns-9 c = storeless _ _ _ _ (c .enum-told9 .given .1) _ (λ i. refl) (λ i. refl)
+returns-9 c = storeless _ _ _ _ (c .enum-told9 .given .1) _ _ (λ accs i. refl) (λ accs i. refl)
 
 returns-10 : tie.Need-returns-10
 unfolding effectOf past pushed
-returns-10 c = storeless _ _ _ _ (c .enum-told10 .given .1) _ (λ i. refl) (λ i. refl)
+returns-10 c = storeless _ _ _ _ (c .enum-told10 .given .1) _ _ (λ accs i. refl) (λ accs i. refl)
 
 returns-11 : tie.Need-returns-11
-unfolding effectOf past
-returns-11 c = storeless _ _ _ _ (c .before .before .before .before .command .given .1) _ (λ i. rw (c .before .accumulator-at .ensures, c .before .before .number-under .ensures)) (λ i. refl)
+returns-11 c = reads-value _ _ _ _ _ (c .before .enum-told11 .given .1)
 
 returns-12 : tie.Need-returns-12
 unfolding effectOf past pushed
-returns-12 c = storeless _ _ _ _ (c .enum-told11 .given .1) _ (λ i. refl) (λ i. refl)
+returns-12 c = storeless _ _ _ _ (c .enum-told12 .given .1) _ _ (λ accs i. refl) (λ accs i. refl)
 
 returns-13 : tie.Need-returns-13
 unfolding effectOf past
-returns-13 c = storeless _ _ _ _ (c .before .before .command2 .given .1) _ (λ i. refl) (λ i. refl)
+returns-13 c = storeless _ _ _ _ (c .before .before .command .given .1) _ _ (λ accs i. refl) (λ accs i. refl)
 
 returns-14 : tie.Need-returns-14
 unfolding effectOf
-returns-14 c = let s = c .before .before .before .before .before .before in touched-cell _ _ _ _ (c .before .enum-told12 .given .1) (long s) (ranged (s .pre)) (c .touch .ensures) (λ i. refl)
+returns-14 c = let s = c .before .before .before .before .before .before in touched-cell _ _ _ _ (c .before .enum-told13 .given .1) _ (long s) (ranged (s .pre)) (c .touch .ensures) (λ accs i. refl)
 
 returns-15 : tie.Need-returns-15
 unfolding effectOf
-returns-15 c = let s = c .before .before .before .before .before .before in touched-cell _ _ _ _ (c .before .enum-told13 .given .1) (long s) (ranged (s .pre)) (c .touch2 .ensures) (λ i. refl)
+returns-15 c = let s = c .before .before .before .before .before .before in touched-cell _ _ _ _ (c .before .enum-told14 .given .1) _ (long s) (ranged (s .pre)) (c .touch2 .ensures) (λ accs i. refl)
 
 returns-16 : tie.Need-returns-16
 unfolding effectOf
-returns-16 c = let s = c .before .before .before .before .before .before in touched-cell _ _ _ _ (c .before .enum-told14 .given .1) (long s) (ranged (s .pre)) (c .touch3 .ensures) (λ i. refl)
+returns-16 c = let s = c .before .before .before .before .before .before in touched-cell _ _ _ _ (c .before .enum-told15 .given .1) _ (long s) (ranged (s .pre)) (c .touch3 .ensures) (λ accs i. refl)
 
 returns-17 : tie.Need-returns-17
 unfolding effectOf
-returns-17 c = let s = c .before .before .before .before .before .before .before in touched-atom _ _ _ _ (c .before .before .command3 .given .1) (long s) (c .atom .ensures) (λ i. refl)
+returns-17 c = let s = c .before .before .before .before .before .before .before in touched-atom _ _ _ _ (c .before .before .command2 .given .1) _ (long s) (c .atom .ensures) (λ accs i. refl)
 
 pub touched-spec : {M : Type 1} → statement M
 touched-spec =
@@ -163,18 +156,16 @@ touched-spec =
     enum-told-8
     enum-told-9
     enum-told-10
-    enum-known-command
-    number-under-requires
-    accumulator-at-requires
     enum-told-11
-    enum-known-command-2
     enum-told-12
-    touch-requires
+    enum-known-command
     enum-told-13
-    touch-requires-2
+    touch-requires
     enum-told-14
+    touch-requires-2
+    enum-told-15
     touch-requires-3
-    enum-known-command-3
+    enum-known-command-2
     atom-requires
     returns
     returns-2

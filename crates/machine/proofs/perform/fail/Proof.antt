@@ -21,7 +21,7 @@ changing-requires c κs = search needs
 
 returns : tie.Need-returns
 unfolding Does changed applied withStores Counts
-returns c = λ d.
+returns c = λ accs d f.
     let own = c .before .before .stopped .ensures in
     let named = c .before .before .before .fault-of .ensures in
     let shared = c .before .counted .ensures (c .before .before .before .before .pre) in

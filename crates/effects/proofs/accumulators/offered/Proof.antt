@@ -1,9 +1,9 @@
 -- The value that is reduced into it.
 use mathlib.Core.Path.{_∙_}
-use Rattle.effects.specs.Share.{offered}
+use Rattle.effects.specs.Accumulators.{offered}
 use borrow.Author.Needs.{needs}
-use Rattle.effects.proofs.share.offered.Statement.{statement}
-use Rattle.effects.proofs.share.offered.Tie as tie
+use Rattle.effects.proofs.accumulators.offered.Statement.{statement}
+use Rattle.effects.proofs.accumulators.offered.Tie as tie
 
 accumulator-at-requires : tie.Need-accumulator-at-requires
 accumulator-at-requires c κs = search needs

@@ -4,8 +4,8 @@ use native.Mathlib.Omega.{arith}
 use mathlib.Core.Path.{_≡_, sym, ap, _∙_}
 use lib.ListN.{length, getD, List·getD-eq-default}
 use borrow.Author.Needs.{needs}
-use Rattle.effects.proofs.share.number_under.Statement.{statement}
-use Rattle.effects.proofs.share.number_under.Tie as tie
+use Rattle.effects.proofs.accumulators.number_under.Statement.{statement}
+use Rattle.effects.proofs.accumulators.number_under.Tie as tie
 
 wide-requires : tie.Need-wide-requires
 wide-requires c κs = search needs
