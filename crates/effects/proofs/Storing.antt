@@ -1,24 +1,17 @@
 -- Cells by value follow the definitions' stores.
-use Prim.Native.Nat.{ℕ, zero, suc, _+_, _%_, _≤_, _<_}
+use Prim.Native.Nat.{ℕ, _+_, _%_, _<_}
 use native.Mathlib.Omega.{arith}
-use native.Mathlib.Numerals.{add-one}
-use mathlib.Core.Path.{_≡_, refl, sym, ap, _∙_}
-use mathlib.Core.List.{List, [], _∷_, _++_}
+use mathlib.Core.Path.{_≡_, refl, sym, _∙_}
+use mathlib.Core.List.{List, [], _∷_}
 use mathlib.Core.Bool.{Bool, true, false, cond, _&&_}
-use lib.ListN.{length, getD, set, take, length-set}
-use lib.Seq.{getD-set-same, getD-set-other, take-suc, take-all}
-use lib.Dec.{eqb, ltb, leb}
-use borrow.Author.Tests.{eqb-true, eqb-false, ltb-true, leb-true}
-use Rattle.program.specs.Command.{rows, rowAt, rowOf, held, width}
-use Rattle.program.specs.Bodies.{Program, programOf, from, headOf}
-use Rattle.program.specs.declared.command.Command.{Command}
-use Rattle.program.specs.declared.command.Command.the-variants.{End, Fetch, Store, Add, Atom}
-use Rattle.program.proofs.Shape.{OnCells, Ranged}
-use Rattle.program.proofs.ShapeRows.{held-is, width-is}
-use Rattle.rules.specs.declared.state.Frame.{Frame}
+use lib.ListN.{length, getD, set, length-set}
+use lib.Seq.{getD-set-same, getD-set-other}
+use lib.Dec.{eqb, ltb}
+use borrow.Author.Tests.{eqb-true, eqb-false, ltb-true}
+use Rattle.program.specs.Command.{rows, rowAt, rowOf}
+use Rattle.program.specs.declared.command.Command.the-variants.{Fetch, Store, Add}
 use Rattle.rules.specs.declared.state.Activity.{Activity}
-use Rattle.rules.specs.Tree.{rest, here}
-use Rattle.rules.specs.Effects.{Stored, Touch, cellAfter, withStores, touch, touchAll, untouched}
+use Rattle.rules.specs.Effects.{Stored, cellAfter, withStores, touch, untouched}
 use Rattle.rules.proofs.Tests.{and-true}
 use Rattle.effects.specs.Cells.{InRange, Agrees, cellIn, Follows}
 use Rattle.effects.specs.declared.cells.Touched.{Touched}

@@ -1,10 +1,9 @@
 // What a command does to the accumulators.
 ghost use mathlib.Core.Path.{_≡_};
-ghost use Prim.Native.Nat.{_-_};
-ghost use lib.ListN.{getD, set};
-ghost use Rattle.rules.specs.State.{noAccumulator};
+ghost use lib.ListN.{set};
 ghost use Rattle.effects.specs.Accumulators.{writes, valued, offered, accsAfter};
-use parts::empty::no_accumulator;
+use parts::names::accumulator_at;
+use parts::names::number_under;
 use parts::numbers::operator_of;
 use parts::reduction::new_accumulator;
 use parts::reduction::reduce;
@@ -33,31 +32,6 @@ pub fn writes(command: Command) -> bool
         return true;
     }
     op == RESET
-}
-
-// The number of the accumulator under a name, 0 where none is bound.
-fn number_under(names: [u8; 8], n: u8) -> usize
-    ensures { λ r. ⌜ r ≡ getD names n 0 - 1 ⌝ }
-{
-    let at = wide(n);
-    if 8 <= at {
-        return 0;
-    }
-    let entry = wide(names[at]);
-    if entry == 0 {
-        return 0;
-    }
-    entry - 1
-}
-
-// The accumulator of a number, all 0 where there is none.
-fn accumulator_at(accs: [Accumulator; 16], number: usize) -> Accumulator
-    ensures { λ r. ⌜ r ≡ getD accs number noAccumulator ⌝ }
-{
-    if 16 <= number {
-        return no_accumulator();
-    }
-    accs[number]
 }
 
 // An accumulator in the place of another; past the last nothing is written.

@@ -155,9 +155,6 @@ module _ {t : List ℕ} {starts : List ℕ} {s : State} (fit : Fit t starts s) {
   pub able : Able t starts (act s i)
   able = record { known = fit .known; stack = stack-of fit made }
 
-  pub bindings : (n : ℕ) → n < 8 → bound (act s i) n ≤ 16
-  bindings n h = let f = facts 65535 (programOf t) s (fit .formed) in omega (arith, f .spawned i made .bounds n h, f .accs16)
-
 -- NUMBERS 14 TO 16
 
 module _ (p : Program) (s : State) (i : ℕ) where

@@ -2,7 +2,7 @@ pub mod Places
 pub mod Stacks
 pub mod Chains
 pub mod Facing
-pub mod Values
+pub mod Reading
 pub mod Asked
 pub mod Views
 pub mod Exceeding

@@ -6,17 +6,15 @@ use mathlib.Core.Path.{_≡_, refl, sym, ap, _∙_}
 use mathlib.Core.List.{List}
 use mathlib.Core.Bool.{Bool, true, false, cond, _&&_}
 use mathlib.Core.Logic.{_⊎_, inl, inr}
-use lib.ListN.{getD}
 use Rattle.program.specs.Bodies.{Program}
 use Rattle.program.specs.declared.command.Command.{Command}
-use Rattle.program.specs.declared.command.Command.the-variants.{Read}
 use Rattle.rules.specs.declared.state.Accumulator.{Accumulator}
 use Rattle.rules.specs.declared.state.Activity.{Activity}
 use Rattle.rules.specs.declared.state.State.{State}
-use Rattle.rules.specs.State.{act, top, accumulator, noAccumulator, isEnded}
+use Rattle.rules.specs.State.{act, top, isEnded}
 use Rattle.rules.specs.Tree.{here}
 use Rattle.rules.specs.Waiting.{waitsAt}
-use Rattle.rules.specs.Faults.{numberUnder, faultFor}
+use Rattle.rules.specs.Faults.{faultFor}
 use Rattle.rules.specs.Effects.{envOf}
 use Rattle.rules.specs.Steps.{refusal}
 use Rattle.rules.proofs.Tests.{and-true, true-false, decide}
@@ -55,10 +53,6 @@ module _ {p : Program} {accs : List Accumulator} {e : Shared} {i : ℕ} {a : Act
 
     pub met : seen .fault ≡ faultFor p (envOf (whole acts accs e)) i (act (whole acts accs e) i) (seen .command)
     met = d .sees .fault runs (whole acts accs e) refl ∙ rw (d .own, stands)
-
-    -- What READ reads.
-    pub reads : (n : ℕ) → seen .command ≡ Read n → seen .value ≡ accumulator (whole acts accs e) (numberUnder (act (whole acts accs e) i) n) .value
-    reads n q = d .sees .value runs n (sym (d .sees .command runs) ∙ q) ∙ ap (λ (x : Activity). getD accs (numberUnder x n) noAccumulator .value) (d .own)
 
     -- It waits where it was asked and found waiting.
     asked-wait : seen .fault ≡ 0 → waitsAt p (whole acts accs e) i (act (whole acts accs e) i) (seen .command) ≡ waits

@@ -3,33 +3,26 @@ use Prim.Native.Nat.{ℕ}
 use native.Mathlib.Omega.{arith}
 use mathlib.Core.Path.{_≡_, refl, sym, ap, _∙_}
 use mathlib.Core.List.{List}
-use mathlib.Core.Bool.{Bool, true, false, cond, _&&_}
+use mathlib.Core.Bool.{Bool, true, false, cond}
 use lib.ListN.{getD, set}
 use lib.Seq.{set-getD}
-use native.Mathlib.Decide.{ℕ-discrete}
-use mathlib.Core.Logic.{_⊎_, inl, inr}
 use Rattle.program.specs.Command.{operandsOf}
 use Rattle.program.specs.Bodies.{Program, programOf}
 use Rattle.program.specs.declared.command.Command.{Command}
 use Rattle.rules.specs.declared.state.Accumulator.{Accumulator}
 use Rattle.rules.specs.declared.state.Activity.{Activity}
-use Rattle.rules.specs.declared.state.State.{State}
 use Rattle.rules.specs.declared.answer.Answer.the-variants.{Refused}
 use Rattle.rules.specs.declared.answer.Stepped.{Stepped}
-use Rattle.rules.specs.State.{answerNumber, act, top, absent, isEnded}
-use Rattle.rules.specs.Tree.{here}
-use Rattle.rules.specs.Waiting.{waitsAt}
-use Rattle.rules.specs.Faults.{faultFor}
-use Rattle.rules.specs.Effects.{child, envOf}
+use Rattle.rules.specs.State.{answerNumber, absent}
+use Rattle.rules.specs.Effects.{child}
 use Rattle.rules.specs.Steps.{base, at, effect, refusal, exceeds, stepped, advance}
-use Rattle.rules.proofs.Tests.{and-true, true-false, decide}
+use Rattle.rules.proofs.Tests.{true-false}
 use Rattle.rules.proofs.WellFormedFacts.{facts}
 use Rattle.parts.specs.Shared.{whole, lone}
 use Rattle.machine.specs.Change.{changed, Alters, IsChild}
-use Rattle.guards.specs.Views.{Viewed}
 use Rattle.guards.specs.Exceeding.{overfull, exceedsAt}
 use Rattle.effects.specs.Accumulators.{accsAfter}
-use Rattle.machine.specs.Perform.{Reads}
+use Rattle.guards.specs.Met.{Reads}
 use Rattle.machine.specs.Turn.{Turn, DueAt, TurnedAt}
 use Rattle.parts.specs.declared.shared.Shared.{Shared}
 use Rattle.machine.specs.declared.change.Change.{Change}
@@ -65,7 +58,7 @@ module _ {t starts : List ℕ} {work : ℕ} {accs : List Accumulator} {e : Share
         }
 
     -- What READ reads.
-    pub reading : Reads accs a (seen .command) (seen .value)
+    pub reading : Reads accs (a .accumulators) (seen .command) (seen .value)
     unfolding Reads
     reading n q = d .view .sees .value (runs (d .view) z) n (sym (d .view .sees .command (runs (d .view) z)) ∙ q)
 

@@ -4,7 +4,7 @@ use native.Mathlib.Omega.{arith}
 use mathlib.Core.Path.{_≡_, refl, sym, ap, _∙_}
 use mathlib.Core.List.{List, []}
 use mathlib.Core.Bool.{Bool, true, false, cond, _||_, _&&_}
-use lib.ListN.{length, set}
+use lib.ListN.{set}
 use lib.Dec.{ltb, leb}
 use borrow.Author.Tests.{ltb-false, leb-false}
 use Rattle.program.specs.Command.{names}
@@ -34,7 +34,6 @@ use Rattle.effects.proofs.Sharing.{written}
 use Rattle.guards.specs.Facing.{Facing, Next}
 use Rattle.machine.specs.Change.{changing, changed, Alters, IsChild}
 use Rattle.machine.specs.Perform.{effectHere, Performing}
-use Rattle.machine.specs.declared.change.Change.{Change}
 use Rattle.machine.proofs.Storing.{sound, ranged}
 
 -- NUMBER 17

@@ -29,8 +29,9 @@ use Rattle.effects.specs.declared.cells.Touched.{Touched}
 use Rattle.effects.proofs.Storing.{agrees-first}
 use Rattle.guards.specs.Known.{On}
 use Rattle.guards.specs.Facing.{Facing}
+use Rattle.guards.specs.Met.{Reads}
 use Rattle.guards.proofs.Places.{sound-here}
-use Rattle.machine.specs.Perform.{effectHere, Reads, Touches}
+use Rattle.machine.specs.Perform.{effectHere, Touches}
 
 -- STANDING ON A COMMAND
 

@@ -1,12 +1,11 @@
 -- The step of activity i: numbers 14 to 17, or the state after its effect, answered with the activity's status there.
 use Prim.Native.Nat.{ℕ, _≤_, _<_}
 use native.Mathlib.Omega.{arith}
-use mathlib.Core.Path.{_≡_, sym, ap, _∙_}
+use mathlib.Core.Path.{_≡_, sym, _∙_}
 use mathlib.Core.List.{List}
 use mathlib.Core.Bool.{true, false}
 use lib.ListN.{length, getD, set}
 use lib.Seq.{getD-set-same, getD-set-other}
-use lib.Dec.{eqb}
 use borrow.Author.Tests.{ne-eqb}
 use Rattle.program.specs.Bodies.{Program, programOf}
 use Rattle.program.specs.declared.command.Command.{Command}
@@ -15,7 +14,7 @@ use Rattle.rules.specs.declared.state.Activity.{Activity}
 use Rattle.rules.specs.declared.state.State.{State}
 use Rattle.rules.specs.declared.state.Status.the-variants.{Faulted}
 use Rattle.rules.specs.declared.answer.Answer.the-variants.{Accepted, Refused}
-use Rattle.rules.specs.State.{faultOf, act, top, absent, ended}
+use Rattle.rules.specs.State.{faultOf, act, top, absent}
 use Rattle.rules.specs.Tree.{here}
 use Rattle.rules.specs.Effects.{Spawned, nobody, one, Effect, withSpawned, effectOf, failing, envOf, applied}
 use Rattle.rules.specs.Steps.{base, at, fault, effect, refusal, exceeds, stepped, advance}

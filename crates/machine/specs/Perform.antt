@@ -3,21 +3,18 @@ use Prim.Native.Nat.{ℕ, _≤_}
 use mathlib.Core.Path.{_≡_}
 use mathlib.Core.List.{List, []}
 use mathlib.Core.Bool.{false}
-use lib.ListN.{getD}
 use Rattle.program.specs.Bodies.{Program, programOf}
 use Rattle.program.specs.Count.{workOf}
 use Rattle.program.specs.declared.command.Command.{Command}
-use Rattle.program.specs.declared.command.Command.the-variants.{Read}
 use Rattle.rules.specs.declared.state.Accumulator.{Accumulator}
 use Rattle.rules.specs.declared.state.Activity.{Activity}
-use Rattle.rules.specs.declared.state.State.{State}
-use Rattle.rules.specs.State.{top, noAccumulator}
+use Rattle.rules.specs.State.{top}
 use Rattle.rules.specs.Tree.{here}
-use Rattle.rules.specs.Faults.{numberUnder}
 use Rattle.rules.specs.Effects.{Effect, withStores, effectOf, envOf}
 use Rattle.rules.specs.Steps.{base, exceeds}
 use Rattle.parts.specs.declared.shared.Shared.{Shared}
 use Rattle.parts.specs.Shared.{whole}
+use Rattle.guards.specs.Met.{Reads}
 use Rattle.effects.specs.Accumulators.{accsAfter}
 use Rattle.effects.specs.declared.cells.Touched.{Touched}
 use Rattle.machine.specs.declared.change.Change.{Change}
@@ -27,19 +24,15 @@ use Rattle.machine.specs.Change.{Alters, IsChild}
 abbrev pub effectHere : Program → List Accumulator → Shared → ℕ → Activity → Command → Effect
 effectHere p accs e i a command = effectOf p (envOf (whole [] accs e)) i a command (here p (top a) .inner)
 
--- The value is the one that READ reads.
-unfoldable pub Reads : List Accumulator → Activity → Command → ℕ → Type 0
-Reads accs a command value = (n : ℕ) → command ≡ Read n → value ≡ getD accs (numberUnder a n) noAccumulator .value
-
 -- The register and the cells after a command, whichever activity it is and whichever accumulators there are.
 pub record Touches (p : Program) (e : Shared) (a : Activity) (command : Command) (value : ℕ) (r : Touched) : Type 0 where
-  pub register : (accs : List Accumulator) → Reads accs a command value → (i : ℕ) → r .register ≡ effectHere p accs e i a command .self .register
+  pub register : (accs : List Accumulator) → Reads accs (a .accumulators) command value → (i : ℕ) → r .register ≡ effectHere p accs e i a command .self .register
   pub cells : (accs : List Accumulator) (i : ℕ) → r .cells ≡ withStores (e .cells) (effectHere p accs e i a command .stores)
 
 -- A command that meets no fault and does not exceed.
 pub record Performing (t : List ℕ) (accs : List Accumulator) (e : Shared) (i : ℕ) (a : Activity) (command : Command) (value : ℕ) : Type 0 where
   pub work : workOf (programOf t) ≤ 65535
-  pub reads : Reads accs a command value
+  pub reads : Reads accs (a .accumulators) command value
   pub fits : exceeds base (programOf t) (whole [] accs e) (effectHere (programOf t) accs e i a command) ≡ false
 
 -- What a command changes that activity i, which is a, stands on.

@@ -1,7 +1,7 @@
 -- What a run promises: how it ended, the state after it, and the answers in the buffer.
 use Prim.Native.Nat.{ℕ}
 use mathlib.Core.List.{List, map, _++_}
-use mathlib.Core.Bool.{Bool, cond, _||_}
+use mathlib.Core.Bool.{cond, _||_}
 use mathlib.Core.Path.{_≡_}
 use lib.ListN.{length, drop}
 use lib.Dec.{leb, eqb}

@@ -16,11 +16,11 @@ use Rattle.rules.specs.WellFormed.{wellFormed}
 use Rattle.rules.specs.Steps.{base, at, fault, effect, refusal, exceeds, advance}
 use Rattle.rules.specs.Runs.{runFrom, answersFrom}
 use Rattle.guards.specs.Known.{Known}
+use Rattle.guards.specs.Met.{Reads}
 use Rattle.guards.specs.Views.{Fit, Viewed}
 use Rattle.parts.specs.Shared.{whole}
 use Rattle.effects.specs.Accumulators.{accsAfter}
 use Rattle.machine.specs.Change.{changed, Alters, IsChild}
-use Rattle.machine.specs.Perform.{Reads}
 use Rattle.parts.specs.declared.shared.Shared.{Shared}
 use Rattle.machine.specs.declared.change.Change.{Change}
 use Rattle.guards.specs.declared.look.Seen.{Seen}
@@ -38,7 +38,7 @@ pub record Turn (t : List ℕ) (starts : List ℕ) (s : State) (i : ℕ) (a : Ac
 pub record TakingAt (t : List ℕ) (starts : List ℕ) (accs : List Accumulator) (e : Shared) (i : ℕ) (a : Activity) (seen : Seen) (acts : List Activity) : Type 0 where
   pub turn : Turn t starts (whole acts accs e) i a (seen .fault) (seen .command)
   pub fits : exceeds base (programOf t) (whole acts accs e) (effect (programOf t) (whole acts accs e) i) ≡ false
-  pub reads : Reads accs a (seen .command) (seen .value)
+  pub reads : Reads accs (a .accumulators) (seen .command) (seen .value)
 
 pub record Taking (t : List ℕ) (starts : List ℕ) (e : Shared) (i : ℕ) (a : Activity) (seen : Seen) : Type 0 where
   pub acts : List Activity

@@ -2,7 +2,6 @@
 ghost use mathlib.Core.Path.{_≡_};
 ghost use Prim.Native.Nat.{_<_};
 ghost use lib.ListN.{length};
-ghost use Rattle.program.specs.Bodies.{programOf};
 ghost use Rattle.rules.specs.Steps.{base};
 ghost use Rattle.rules.specs.Runs.{runFrom};
 ghost use Rattle.effects.specs.Accumulators.{accsAfter};

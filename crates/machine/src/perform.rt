@@ -1,5 +1,4 @@
 // A step that goes on, and a step that faults.
-ghost use mathlib.Core.Path.{_≡_};
 ghost use Prim.Native.Nat.{_<_};
 ghost use Rattle.rules.specs.declared.state.Status.the-variants.{Faulted};
 ghost use Rattle.rules.specs.State.{faultOf};

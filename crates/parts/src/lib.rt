@@ -5,3 +5,4 @@ pub mod holds; // holds.rt: what RESUME, NEXT and ASYNC do to a clock's registra
 pub mod empty; // empty.rt: unused entries, the state of zeros and the start state
 pub mod reduction; // reduction.rt: accumulators
 pub mod shared; // shared.rt: a state in parts, the activities, the accumulators and what else is shared
+pub mod names; // names.rt: accumulators, by name and by number

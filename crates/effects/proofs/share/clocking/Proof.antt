@@ -1,5 +1,4 @@
 -- Where there is room, the count is one more.
-use Prim.Native.Nat.{ℕ, _≤_, _<_}
 use native.Mathlib.Omega.{arith}
 use mathlib.Core.Path.{refl}
 use Rattle.effects.specs.Share.{Clocks}

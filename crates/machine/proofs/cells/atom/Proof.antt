@@ -2,7 +2,6 @@
 use Prim.Native.Nat.{_-_, _<_}
 use native.Mathlib.Omega.{arith}
 use Rattle.machine.proofs.Storing.{on}
-use borrow.Author.Needs.{needs}
 use Rattle.machine.proofs.cells.atom.Statement.{statement}
 use Rattle.machine.proofs.cells.atom.Tie as tie
 

@@ -1,12 +1,11 @@
 -- Past the accumulators the definition has the default.
-use Prim.Native.Nat.{ℕ, _≤_, _<_}
 use native.Mathlib.Omega.{arith}
 use mathlib.Core.Path.{_≡_, sym, _∙_}
 use lib.ListN.{length, List·getD-eq-default}
 use Rattle.rules.specs.State.{noAccumulator}
 use borrow.Author.Needs.{needs}
-use Rattle.effects.proofs.accumulators.accumulator_at.Statement.{statement}
-use Rattle.effects.proofs.accumulators.accumulator_at.Tie as tie
+use Rattle.parts.proofs.names.accumulator_at.Statement.{statement}
+use Rattle.parts.proofs.names.accumulator_at.Tie as tie
 
 sixteen : (c : tie.Start) → length (c .args .t1) ≡ 16
 sixteen c = search needs

@@ -23,10 +23,10 @@ unfolding Reads
 reads-none accs names command r h = λ n e.
     absurd (types.Run.miss others 10 tt (subst (λ (c : Command). types.Run.OneOf others (denote.Enum.Declared.tagOf Rattle.program.proofs.command.Command.the-type c)) e h))
 
--- READ of a name, where what stands under it and the accumulator were read.
-pub reads-own : (accs : List Accumulator) (names : List ℕ) {command : Command} {m entry number : ℕ} {x : Accumulator} → command ≡ Read m → entry ≡ getD names m 0
-    → number ≡ entry - 1 → x ≡ getD accs number noAccumulator → Reads accs names command (x .value)
+-- READ of a name, where its accumulator was read.
+pub reads-own : (accs : List Accumulator) (names : List ℕ) {command : Command} {m number : ℕ} {x : Accumulator} → command ≡ Read m → number ≡ getD names m 0 - 1
+    → x ≡ getD accs number noAccumulator → Reads accs names command (x .value)
 unfolding Reads
-reads-own accs names {m = m} e h q f = λ n d.
+reads-own accs names {m = m} e q f = λ n d.
     let same : m ≡ n = (let z = sym e ∙ d in cc z) in
-    rw (f, q, h, same)
+    rw (f, q, same)

@@ -4,8 +4,8 @@ use mathlib.Core.Path.{_≡_, sym, ap, _∙_}
 use lib.ListN.{length, getD, List·getD-eq-default}
 use native.Mathlib.Omega.{arith}
 use borrow.Author.Needs.{needs}
-use Rattle.guards.proofs.names.entry_of.Statement.{statement}
-use Rattle.guards.proofs.names.entry_of.Tie as tie
+use Rattle.parts.proofs.names.entry_of.Statement.{statement}
+use Rattle.parts.proofs.names.entry_of.Tie as tie
 
 sized : (c : tie.Start) → length (c .args .t1) ≡ 8
 sized c = search needs
