@@ -2,10 +2,8 @@
 use Prim.Native.Nat.{ℕ, _<_}
 use mathlib.Core.Path.{_≡_, refl, _∙_}
 use mathlib.Core.List.{List}
-use mathlib.Core.Bool.{Bool, true, false, _&&_}
+use mathlib.Core.Bool.{true, false}
 use lib.ListN.{set, List·getD-map}
-use lib.Dec.{ltb}
-use borrow.Author.Tests.{ltb-true}
 use Rattle.program.specs.Command.{rows, rowAt, rowOf, names, isEnd}
 use Rattle.program.specs.Bodies.{Program}
 use Rattle.program.specs.declared.command.Command.{Command}
@@ -16,14 +14,11 @@ use Rattle.rules.specs.State.{noHold, hold, isAtBarrier}
 use Rattle.rules.specs.Clocks.{pass, quiesce}
 use Rattle.rules.specs.Faults.{Env}
 use Rattle.rules.specs.Effects.{withHolds, withRegister, past, pushed, nextOf, repeatOf, effectOf}
-use Rattle.rules.proofs.Tests.{and-true}
 use Rattle.effects.specs.Stack.{movedTo, Ends}
 use Rattle.effects.specs.Becomes.{Becomes, Passable, Meets, newHold, Rehold, Rename}
 use Rattle.effects.specs.Own.{Given, OwnAfter}
 use Rattle.effects.proofs.Stacks.{moved-past}
-
-first-small : {x n : ℕ} (b : Bool) → ltb x n && b ≡ true → x < n
-first-small {x} {n} b e = ltb-true x n (and-true (ltb x n) b e .0)
+use Rattle.effects.proofs.Storing.{first-small}
 
 module _ (a : Activity) (next register activities clocks accumulators : ℕ) (r : Activity) where
   -- The activity after a command.

@@ -3,7 +3,7 @@ use Prim.Native.Nat.{ℕ, _-_, _≤_, _<_}
 use native.Mathlib.Omega.{arith}
 use mathlib.Core.Path.{_≡_, refl, sym, ap, _∙_}
 use mathlib.Core.List.{List, []}
-use mathlib.Core.Bool.{Bool, true, false, cond, _||_, _&&_}
+use mathlib.Core.Bool.{Bool, true, false, cond, _&&_}
 use lib.ListN.{set}
 use lib.Dec.{ltb, leb}
 use borrow.Author.Tests.{ltb-false, leb-false}
@@ -11,6 +11,7 @@ use Rattle.program.specs.Command.{names}
 use Rattle.program.specs.Bodies.{Program, programOf}
 use Rattle.program.specs.Count.{workOf}
 use Rattle.program.specs.declared.command.Command.{Command}
+use Rattle.program.proofs.Basic.{or-false}
 use Rattle.program.proofs.ShapeLaws.{accepted}
 use Rattle.rules.specs.declared.state.Accumulator.{Accumulator}
 use Rattle.rules.specs.declared.state.Activity.{Activity}
@@ -37,10 +38,6 @@ use Rattle.machine.specs.Perform.{effectHere, Performing}
 use Rattle.machine.proofs.Storing.{sound, ranged}
 
 -- NUMBER 17
-
-or-false : (a b : Bool) → a || b ≡ false → (a ≡ false) × (b ≡ false)
-or-false true b e = (e, let z : _≡_ {A = ℕ} 0 1 = cc in absurd (omega arith))
-or-false false b e = (refl, e)
 
 -- An effect that does not exceed.
 pub record Within (p : Program) (s : State) (e : Effect) : Type 0 where
