@@ -15,7 +15,7 @@ use Rattle.rules.specs.Clocks.{pass, quiesce}
 use Rattle.rules.specs.Faults.{Env}
 use Rattle.rules.specs.Effects.{withHolds, withRegister, past, pushed, nextOf, repeatOf, effectOf}
 use Rattle.effects.specs.Stack.{movedTo, Ends}
-use Rattle.effects.specs.Becomes.{Becomes, Passable, Meets, newHold, Rehold, Rename}
+use Rattle.effects.specs.Becomes.{Becomes, Passable, AtNext, newHold, Rehold, Rename}
 use Rattle.effects.specs.Own.{Given, OwnAfter}
 use Rattle.effects.proofs.Stacks.{moved-past}
 use Rattle.effects.proofs.Storing.{first-small}
@@ -49,8 +49,8 @@ module _ (a : Activity) (next register activities clocks accumulators : ℕ) (r 
   unfolding effectOf nextOf past Passable
   passable p e i inner g q k small = let z = rw q at (g .phases k small) in rw (List·getD-map pass (a .holds) k noHold) at z
 
-  pub next-arm : {command : Command} → command ≡ Next → Meets a next r → After command
-  unfolding OwnAfter Meets Becomes effectOf isEnd
+  pub next-arm : {command : Command} → command ≡ Next → AtNext a next r → After command
+  unfolding OwnAfter AtNext Becomes effectOf isEnd
   next-arm q h = found q (λ p e i inner g. h (passable p e i inner g) p (g .onward refl))
 
   -- ANOTHER HOLD
@@ -112,4 +112,4 @@ module _ (a : Activity) (next register activities clocks accumulators : ℕ) (r 
   pub register-arm : {command o : Command} → command ≡ o → isEnd o ≡ false
       → ((p : Program) (e : Env) (i : ℕ) (inner : List Command) → past p (withRegister a (effectOf p e i a o inner .self .register)) ≡ effectOf p e i a o inner .self)
       → Becomes a next (λ p. past p (withRegister a register)) r → After command
-  register-arm {o = o} q n same h = found q (onward o (λ p. past p (withRegister a register)) n (λ p e i inner g. rw (g .hand) (same p e i inner)) h)
+  register-arm {o = o} q n same h = found q (onward o (λ p. past p (withRegister a register)) n (λ p e i inner g. rw (g .loads) (same p e i inner)) h)

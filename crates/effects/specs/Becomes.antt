@@ -22,8 +22,8 @@ unfoldable pub Passable : List Hold → Type 0
 Passable holds = (k : ℕ) → k < 8 → pass (getD holds k noHold) .phase ≤ 65535
 
 -- NEXT, where passing keeps the phases within their limit.
-unfoldable pub Meets : Activity → ℕ → Activity → Type 0
-Meets a next r = (isAtBarrier (a .status) ≡ true → Passable (a .holds)) → Becomes a next (λ p. nextOf p a (isAtBarrier (a .status))) r
+unfoldable pub AtNext : Activity → ℕ → Activity → Type 0
+AtNext a next r = (isAtBarrier (a .status) ≡ true → Passable (a .holds)) → Becomes a next (λ p. nextOf p a (isAtBarrier (a .status))) r
 
 -- A new clock.
 abbrev pub newHold : ℕ → Hold

@@ -30,7 +30,7 @@ pub record Given (p : Program) (e : Env) (i : ℕ) (a : Activity) (command : Com
   pub clock : clocks ≡ e .clock
   pub made : accumulators ≡ e .accumulator
   pub room : makes (effectOf p e i a command inner .write) ≡ true → accumulators < 16
-  pub hand : register ≡ effectOf p e i a command inner .self .register
+  pub loads : register ≡ effectOf p e i a command inner .self .register
 
 -- The activity after it is that of the command's effect, whichever program and state it is in.
 unfoldable pub OwnAfter : Activity → Command → ℕ → ℕ → ℕ → ℕ → ℕ → Activity → Type 0

@@ -6,7 +6,7 @@ ghost use Rattle.rules.specs.State.{noHold, hold};
 ghost use Rattle.rules.specs.Clocks.{pass, quiesce};
 ghost use Rattle.rules.specs.Effects.{past, withRegister, repeatOf};
 ghost use Rattle.effects.specs.Stack.{Standing};
-ghost use Rattle.effects.specs.Becomes.{Becomes, Passable, Meets, Rehold, Rename, newHold};
+ghost use Rattle.effects.specs.Becomes.{Becomes, Passable, AtNext, Rehold, Rename, newHold};
 use super::stack::moved;
 use super::stack::pushed;
 use clocks::own::quiesce_all;
@@ -57,7 +57,7 @@ fn pass_all(holds: [Hold; 8]) -> [Hold; 8]
 // NEXT: arrival, and passing where the activity has arrived.
 pub fn next_of(a: Activity, next: u16) -> Activity
     requires { ⌜ Standing a ⌝ }
-    ensures { λ r. ⌜ Meets a next r ⌝ }
+    ensures { λ r. ⌜ AtNext a next r ⌝ }
 {
     let status = a.status;
     let own = a.holds;

@@ -59,9 +59,9 @@ module _ (p : Program) (s : State) (i : ℕ) (a : Activity) (c : Command) {op : 
   waits-as d o h = h ∙ sym (waits-alike p s i a c d (sym e ∙ o))
 
   -- NEXT.
-  pub waits-meeting : {r : Bool} → op ≡ 1 → r ≡ someBelow (s .activities) (λ x. isAtBarrier (a .status) && behindOf s a x) → r ≡ waitsAt p s i a c
+  pub waits-barrier : {r : Bool} → op ≡ 1 → r ≡ someBelow (s .activities) (λ x. isAtBarrier (a .status) && behindOf s a x) → r ≡ waitsAt p s i a c
   unfolding waitsAt waitsFor
-  waits-meeting o h = waits-as Next o h
+  waits-barrier o h = waits-as Next o h
 
   -- READ and RESET.
   pub waits-reading : {r : Bool} → (op ≡ 10) ⊎ (op ≡ 11) → r ≡ someBelow (s .activities) (unendedBelow s i) → r ≡ waitsAt p s i a c

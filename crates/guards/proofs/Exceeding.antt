@@ -219,7 +219,7 @@ exceeds-own p s i m = go (decide (eqb (fault p s i) 0))
     go (inl z) = rw z (sym (exceeds-done p s i (act s i) (at p s i .command) (at p s i .inner) m))
     go (inr z) = rw z (sym (exceeds-failed p s (act s i) (Faulted (faultOf (fault p s i)))))
 
--- The same of what the code has in hand.
+-- The same of what the code has.
 pub exceeds-at : (p : Program) (s : State) (i : ℕ) {c : Command} {f work : ℕ} {r : Bool} → Measured (act s i) (at p s i .command) → work ≡ workOf p → f ≡ fault p s i
     → c ≡ at p s i .command → r ≡ exceedsAt work s (act s i) f c → r ≡ exceeds base p s (effect p s i)
 exceeds-at p s i m w f c e = e ∙ rw (w, f, c) (exceeds-own p s i m)

@@ -102,7 +102,7 @@ module _ {t : List ℕ} {accs : List Accumulator} {e : Shared} {i : ℕ} {a : Ac
           clock = refl;
           made = refl;
           room = fitting .made;
-          hand = q;
+          loads = q;
         }
 
 -- WHAT IS CHANGED

@@ -1,7 +1,7 @@
 -- Passing where the activity has arrived, and arrival where not.
 use mathlib.Core.Path.{sym, _∙_}
 use Rattle.rules.specs.Effects.{nextOf}
-use Rattle.effects.specs.Becomes.{Becomes, Meets}
+use Rattle.effects.specs.Becomes.{Becomes, AtNext}
 use Rattle.effects.proofs.Stacks.{moved-past}
 use borrow.Author.Needs.{needs}
 use Rattle.effects.proofs.own.next_of.Statement.{statement}
@@ -17,7 +17,7 @@ moved-requires : tie.Need-moved-requires
 moved-requires c κs = search needs
 
 returns : tie.Need-returns
-unfolding Meets Becomes nextOf
+unfolding AtNext Becomes nextOf
 returns c = λ h p e.
     let k = c .before .before .before .before in
     let met = sym (k .before .is-at-barrier .ensures) ∙ k .if1 .taken in
@@ -27,7 +27,7 @@ quiesce-all-requires : tie.Need-quiesce-all-requires
 quiesce-all-requires c κs = search needs
 
 returns-2 : tie.Need-returns-2
-unfolding Meets Becomes nextOf
+unfolding AtNext Becomes nextOf
 returns-2 c = λ h p e.
     let k = c .before .before .before in
     rw (sym (k .before .is-at-barrier .ensures) ∙ k .if1 .left, c .before .before .quiesce-all .ensures)

@@ -3,7 +3,7 @@ use mathlib.Core.Path.{_≡_, sym}
 use mathlib.Core.Logic.{_⊎_, inl, inr, ⊎-elim}
 use borrow.Author.Tests.{eqb-true, eqb-false}
 use Rattle.program.specs.declared.command.Command.the-variants.{End}
-use Rattle.guards.proofs.Asked.{waits-as, waits-meeting, waits-reading, waits-none}
+use Rattle.guards.proofs.Asked.{waits-as, waits-barrier, waits-reading, waits-none}
 use borrow.Author.Needs.{needs}
 use Rattle.guards.proofs.waiting.waits_at.Statement.{statement}
 use Rattle.guards.proofs.waiting.waits_at.Tie as tie
@@ -21,7 +21,7 @@ next-waits-requires : tie.Need-next-waits-requires
 next-waits-requires c κs = search needs
 
 returns-2 : tie.Need-returns-2
-returns-2 c = λ k. waits-meeting _ _ _ _ _ (c .before .before .before .opcode .ensures .0) (c .before .if2 .taken) (c .next-waits .ensures)
+returns-2 c = λ k. waits-barrier _ _ _ _ _ (c .before .before .before .opcode .ensures .0) (c .before .if2 .taken) (c .next-waits .ensures)
 
 read-waits-requires : tie.Need-read-waits-requires
 read-waits-requires c κs = search needs
