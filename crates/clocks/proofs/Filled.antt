@@ -30,7 +30,7 @@ getD-from zero k f j d h = absurd (not-suc-le-zero h)
 getD-from (suc n) k f zero d h = ap f (omega arith)
 getD-from (suc n) k f (suc j) d h = getD-from n (suc k) f j d (le-of-suc-le-suc h) ∙ ap f (omega arith)
 
-pub getD-listFrom : {A : Type 0} (n : ℕ) (f : ℕ → A) (j : ℕ) (d : A) → j < n → getD (listFrom n 0 f) j d ≡ f j
+getD-listFrom : {A : Type 0} (n : ℕ) (f : ℕ → A) (j : ℕ) (d : A) → j < n → getD (listFrom n 0 f) j d ≡ f j
 getD-listFrom n f j d h = getD-from n 0 f j d h ∙ ap f (omega arith)
 
 -- a list by its elements

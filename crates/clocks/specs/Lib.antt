@@ -1,4 +1,4 @@
 pub mod Fill
 pub mod Own
-pub mod Holders
+pub mod Made
 pub mod Sheet
