@@ -20,7 +20,7 @@ fn made(activities: u8) -> usize
     64
 }
 
-// Whether the activity holds the clock and keeps its phase from being quiescent.
+// Whether one of the activity's holds keeps the phase of the clock from being quiescent.
 fn has_behind(clock: u8, phase: u16, a: Activity) -> bool
     ensures { λ r. ⌜ r ≡ someBelow 8 (λ k. isBehind clock phase (hold a k)) ⌝ }
 {
