@@ -5,6 +5,7 @@ use mathlib.Core.List.{List}
 use mathlib.Core.Bool.{true}
 use Rattle.program.specs.declared.command.Command.{Command}
 use Rattle.program.specs.Bodies.{Program}
+use Rattle.program.specs.Table.{workLimit}
 use Rattle.rules.specs.declared.state.Activity.{Activity}
 use Rattle.rules.specs.Faults.{Env}
 use Rattle.rules.specs.Effects.{Effect, withStores, effectOf, applied}
@@ -18,7 +19,7 @@ after e x = sharedOf (applied (lone e) 0 x)
 
 -- There is room for the effect.
 pub record Roomy (e : Shared) (x : Effect) : Type 0 where
-  pub steps : e .steps < 65535
+  pub steps : e .steps < workLimit
   pub spawned : spawns (x .spawned) ≡ true → e .activities < 64
   pub clocked : x .clocked ≡ true → e .clocks < 16
   pub made : makes (x .write) ≡ true → e .accumulators < 16
@@ -30,7 +31,7 @@ withCounts e steps activities clocks accumulators = record { cells = e .cells; s
 
 -- One more step, activity, clock or accumulator, where there is room for it.
 unfoldable pub Counts : Shared → Shared → Type 0
-Counts e r = e .steps < 65535 → r ≡ withCounts e (e .steps + 1) (e .activities) (e .clocks) (e .accumulators)
+Counts e r = e .steps < workLimit → r ≡ withCounts e (e .steps + 1) (e .activities) (e .clocks) (e .accumulators)
 
 unfoldable pub Spawns : Shared → Shared → Type 0
 Spawns e r = e .activities < 64 → r ≡ withCounts e (e .steps) (e .activities + 1) (e .clocks) (e .accumulators)

@@ -22,7 +22,8 @@ use Rattle.rules.proofs.Tests.{decide}
 use Rattle.rules.proofs.Sized.{SizedActivity, Sized}
 use Rattle.encoding.specs.Bytes.{bytesOf, encodeEach}
 use Rattle.encoding.specs.Encode.{statusByte, faultByte, encodeFrame, encodeHold, encodeActivity, encodeAccumulator, encodeState}
-use Rattle.encoding.proofs.NumberLaws.{Bytes, bytesOf-bytes}
+use Rattle.program.proofs.Basic.{Bytes}
+use Rattle.encoding.proofs.NumberLaws.{bytesOf-bytes}
 use Rattle.encoding.proofs.EnumLaws.{registration-passes, operator-passes}
 use Rattle.encoding.proofs.Fits.{FitsFrame, FitsHold, FitsAccumulator, FitsActivity, FitsState}
 

@@ -8,7 +8,8 @@ use lib.ListN.{length, replicate, take, drop, set, length-append, length-drop, l
 use lib.Seq.{take-at, take-suc, take-suc-set, take-all, take-add, length-take-le, take-append-add}
 use borrow.Rule.Slice.PartMut.{putMid}
 use Rattle.encoding.specs.Bytes.{bytesOf, numberOf, part, byteAt, allZero}
-use Rattle.encoding.proofs.NumberLaws.{Bytes, bytes-take, bytes-drop, bytes-of-number, zeros}
+use Rattle.program.proofs.Basic.{Bytes, bytes-take, bytes-drop}
+use Rattle.encoding.proofs.NumberLaws.{bytes-of-number, zeros}
 
 -- a part within the bytes is as long as asked for
 pub sized : (b : List ℕ) (at k m : ℕ) → m ≡ k → at + k ≤ length b → length (take m (drop at b)) ≡ k

@@ -8,7 +8,8 @@ use lib.ListN.{length}
 use Rattle.encoding.specs.Bytes.{bytesOf, numberOf, part, byteAt, encodeEach, partsAt, partsPass}
 use Rattle.encoding.specs.Encode.{encodeFrame, encodeHold, encodeActivity, encodeAccumulator, encodeState}
 use Rattle.encoding.specs.Decode.{frameAt, holdAt, activityAt, accumulatorAt, stateOf, frameEncodes, holdEncodes, activityEncodes, accumulatorEncodes, fieldsEncode}
-use Rattle.encoding.proofs.NumberLaws.{Bytes, bytes-of-number}
+use Rattle.program.proofs.Basic.{Bytes}
+use Rattle.encoding.proofs.NumberLaws.{bytes-of-number}
 use Rattle.encoding.proofs.FieldLaws.{none-yet, byte, field, all, sized, part-bytes, number-part, zero-part}
 use Rattle.encoding.proofs.PartLaws.{partsPass-all}
 use Rattle.encoding.proofs.RoundLaws.{Back, each-back}

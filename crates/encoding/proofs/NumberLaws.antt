@@ -10,23 +10,9 @@ use lib.ListN.{length, getD, take, drop, set, replicate}
 use lib.Dec.{eqb}
 use lib.Seq.{take-suc, take-suc-set, take-all, drop-cons, getD-drop}
 use borrow.Author.Tests.{eqb-true}
+use Rattle.program.proofs.Basic.{Bytes, bytes-drop, bytes-take}
 use Rattle.rules.proofs.Tests.{and-true}
 use Rattle.encoding.specs.Bytes.{bytesOf, numberOf, allZero}
-
--- each entry is below 256, and so is the 0 that stands past the end
-abbrev pub Bytes : List ℕ → Type 0
-Bytes b = (i : ℕ) → getD b i 0 < 256
-
--- what lies behind some bytes is bytes
-pub bytes-drop : (k : ℕ) (b : List ℕ) → Bytes b → Bytes (drop k b)
-bytes-drop k b h i = rw getD-drop (h (k + i))
-
--- the first bytes are bytes
-pub bytes-take : (k : ℕ) (b : List ℕ) → Bytes b → Bytes (take k b)
-bytes-take zero b h i = omega arith
-bytes-take (suc k) [] h i = omega arith
-bytes-take (suc k) (x ∷ b) h zero = h 0
-bytes-take (suc k) (x ∷ b) h (suc i) = bytes-take k b (λ j. h (suc j)) i
 
 -- NUMBERS
 

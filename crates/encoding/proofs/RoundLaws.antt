@@ -9,7 +9,7 @@ use lib.ListN.{length, getD, take, drop, take-append-drop, length-append, length
 use lib.Seq.{take-at, drop-at, length-take-le}
 use Rattle.rules.proofs.Tests.{and-true}
 use Rattle.encoding.specs.Bytes.{encodeEach, partsAt, partsPass}
-use Rattle.encoding.proofs.NumberLaws.{Bytes, bytes-take, bytes-drop}
+use Rattle.program.proofs.Basic.{Bytes, bytes-take, bytes-drop}
 
 -- a value comes back from its k bytes, which pass
 pub record Round {A : Type 0} (e : A → List ℕ) (f : List ℕ → A) (p : List ℕ → Bool) (k : ℕ) (x : A) : Type 0 where

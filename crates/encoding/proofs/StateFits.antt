@@ -9,7 +9,8 @@ use Rattle.rules.specs.State.{noFrame, noHold, noAccumulator, absent}
 use Rattle.rules.proofs.Sized.{SizedActivity, Sized}
 use Rattle.encoding.specs.Bytes.{numberOf, part, partsAt, partsPass}
 use Rattle.encoding.specs.Decode.{frameAt, holdAt, activityAt, accumulatorAt, stateOf, frameEncodes, holdEncodes, activityEncodes, accumulatorEncodes, fieldsEncode}
-use Rattle.encoding.proofs.NumberLaws.{Bytes, number-below}
+use Rattle.program.proofs.Basic.{Bytes}
+use Rattle.encoding.proofs.NumberLaws.{number-below}
 use Rattle.encoding.proofs.FieldLaws.{sized, part-bytes}
 use Rattle.encoding.proofs.PartLaws.{turn-fits, partsAt-at, partsAt-length, partsPass-at, partsPass-all}
 use Rattle.encoding.proofs.Passed.{hold-passes, activity-passes, state-passes}

@@ -11,7 +11,7 @@ use Rattle.rules.proofs.Sized.{Sized}
 use Rattle.rules.proofs.Tests.{and-true}
 use Rattle.encoding.specs.Encode.{encodeState}
 use Rattle.encoding.specs.Decode.{stateOf, fieldsEncode, encodes}
-use Rattle.encoding.proofs.NumberLaws.{Bytes}
+use Rattle.program.proofs.Basic.{Bytes}
 use Rattle.encoding.proofs.Fits.{FitsState}
 use Rattle.encoding.proofs.FromState.{state-round}
 use Rattle.encoding.proofs.FromBytes.{state-back}

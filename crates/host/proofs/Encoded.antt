@@ -9,7 +9,7 @@ use Rattle.rules.specs.Steps.{base, step}
 use Rattle.rules.proofs.StepLaws.{step-refused}
 use Rattle.encoding.specs.Encode.{encodeState}
 use Rattle.encoding.specs.Decode.{encodes, stateOf}
-use Rattle.encoding.proofs.NumberLaws.{Bytes}
+use Rattle.program.proofs.Basic.{Bytes}
 use Rattle.encoding.proofs.StateLaws.{encodeState-stateOf}
 use Rattle.host.specs.Calls.{bytesAfter, stepBytes}
 

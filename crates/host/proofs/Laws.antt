@@ -6,7 +6,7 @@ use mathlib.Core.Bool.{Bool, true, false, cond, not}
 use lib.ListN.{length}
 use lib.Dec.{eqb}
 use borrow.Author.Tests.{eq-eqb, ne-eqb}
-use Rattle.program.specs.Table.{numberOf}
+use Rattle.program.specs.Table.{workLimit, numberOf}
 use Rattle.rules.specs.declared.state.State.{State}
 use Rattle.rules.specs.declared.answer.Stepped.{Stepped}
 use Rattle.rules.specs.declared.answer.Ready.{Ready}
@@ -24,13 +24,13 @@ use Rattle.host.specs.Calls.{fitsState, unfitNumber, startNumber, startB
 
 -- THE TABLE
 
-pub unfit-refused : (t : List ℕ) {n : ℕ} → n ≡ numberOf 65535 t → (n ≡ 0 → ⊥) → n ≡ unfitNumber t
+pub unfit-refused : (t : List ℕ) {n : ℕ} → n ≡ numberOf workLimit t → (n ≡ 0 → ⊥) → n ≡ unfitNumber t
 unfolding unfitNumber
 unfit-refused t {n} e h = rw (sym e, ne-eqb n 0 h)
 
-pub unfit-accepted : (t : List ℕ) → numberOf 65535 t ≡ 0 → 13 ≡ unfitNumber t
+pub unfit-accepted : (t : List ℕ) → numberOf workLimit t ≡ 0 → 13 ≡ unfitNumber t
 unfolding unfitNumber
-unfit-accepted t e = rw (eq-eqb (numberOf 65535 t) 0 e)
+unfit-accepted t e = rw (eq-eqb (numberOf workLimit t) 0 e)
 
 -- THE BYTES
 

@@ -4,7 +4,7 @@ use mathlib.Core.List.{List}
 use mathlib.Core.Bool.{Bool, true, false, cond, _&&_}
 use lib.ListN.{length}
 use lib.Dec.{eqb}
-use Rattle.program.specs.Table.{numberOf}
+use Rattle.program.specs.Table.{workLimit, numberOf}
 use Rattle.rules.specs.declared.state.State.{State}
 use Rattle.rules.specs.declared.answer.Stepped.{Stepped}
 use Rattle.rules.specs.declared.answer.Ready.{Ready}
@@ -25,7 +25,7 @@ fitsState b = eqb (length b) 13776
 
 -- The table's number 1 to 12 comes first, then 13: what a call answers whose buffers do not serve.
 unfoldable pub unfitNumber : List ℕ → ℕ
-unfitNumber t = cond (eqb (numberOf 65535 t) 0) 13 (numberOf 65535 t)
+unfitNumber t = cond (eqb (numberOf workLimit t) 0) 13 (numberOf workLimit t)
 
 -- START: the start state of the table
 

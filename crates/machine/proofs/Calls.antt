@@ -9,7 +9,7 @@ use lib.Dec.{eqb}
 use borrow.Author.Tests.{eqb-true, eqb-false, ne-eqb}
 use Rattle.program.specs.Bodies.{programOf}
 use Rattle.program.specs.Count.{workOf}
-use Rattle.program.specs.Table.{numberOf, counted, tableOf}
+use Rattle.program.specs.Table.{workLimit, numberOf, counted, tableOf}
 use Rattle.program.specs.declared.table.Table.{Table}
 use Rattle.program.proofs.ShapeLaws.{numbered, numbered-counted, table-number, table-counted}
 use Rattle.rules.specs.declared.state.State.{State}
@@ -26,37 +26,37 @@ use Rattle.guards.specs.Views.{Fit}
 
 -- THE TABLE
 
-module _ (t : List ℕ) {found : Table} (e : found ≡ tableOf 65535 t) where
+module _ (t : List ℕ) {found : Table} (e : found ≡ tableOf workLimit t) where
   -- The number that was read.
-  pub number-read : found .number ≡ numberOf 65535 t
-  number-read = ap (λ (x : Table). x .number) e ∙ table-number 65535 t
+  pub number-read : found .number ≡ numberOf workLimit t
+  number-read = ap (λ (x : Table). x .number) e ∙ table-number workLimit t
 
   module _ (z : found .number ≡ 0) where
-    pub accepted-read : numberOf 65535 t ≡ 0
+    pub accepted-read : numberOf workLimit t ≡ 0
     accepted-read = sym number-read ∙ z
 
     counted-read : found ≡ counted t
-    counted-read = e ∙ table-counted 65535 t accepted-read
+    counted-read = e ∙ table-counted workLimit t accepted-read
 
     -- The layout and the work that were read.
     pub known-read : Known t (found .layout .starts)
     unfolding counted
-    known-read = record { scanned = numbered 65535 t accepted-read; laid = ap (λ (x : Table). x .layout .starts) counted-read }
+    known-read = record { scanned = numbered workLimit t accepted-read; laid = ap (λ (x : Table). x .layout .starts) counted-read }
 
     pub work-read : found .work ≡ workOf (programOf t)
     unfolding counted
     work-read = ap (λ (x : Table). x .work) counted-read
 
-    pub work-small : found .work ≤ 65535
-    work-small = rw work-read (numbered-counted 65535 t accepted-read .work)
+    pub work-small : found .work ≤ workLimit
+    work-small = rw work-read (numbered-counted workLimit t accepted-read .work)
 
 -- THE START
 
-pub start-refused : (t : List ℕ) {n : ℕ} → n ≡ numberOf 65535 t → (n ≡ 0 → ⊥) → stepped (Refused n) zeroState ≡ start base t
+pub start-refused : (t : List ℕ) {n : ℕ} → n ≡ numberOf workLimit t → (n ≡ 0 → ⊥) → stepped (Refused n) zeroState ≡ start base t
 unfolding start startWith
 start-refused t {n} e h = rw (sym e, ne-eqb n 0 h)
 
-pub start-accepted : (t : List ℕ) → numberOf 65535 t ≡ 0 → stepped (Accepted Running) startState ≡ start base t
+pub start-accepted : (t : List ℕ) → numberOf workLimit t ≡ 0 → stepped (Accepted Running) startState ≡ start base t
 unfolding start startWith
 start-accepted t z = rw z
 
@@ -68,7 +68,7 @@ fit-parts n true e (inl h) = (eqb-true n 0 h, refl)
 fit-parts n false e (inl h) = let z : _≡_ {A = ℕ} 13 0 = rw h at e in absurd (omega arith)
 fit-parts n w e (inr h) = absurd (eqb-false n 0 h (rw h at e))
 
-module _ (t : List ℕ) (s : State) {number : ℕ} (e : number ≡ unfit base (numberOf 65535 t) (programOf t) s) where
+module _ (t : List ℕ) (s : State) {number : ℕ} (e : number ≡ unfit base (numberOf workLimit t) (programOf t) s) where
   -- With a number.
   module _ (h : number ≡ 0 → ⊥) where
     pub step-unfit : (i : ℕ) → stepped (Refused number) s ≡ step base t s i
@@ -90,11 +90,11 @@ module _ (t : List ℕ) (s : State) {number : ℕ} (e : number ≡ unfit base (n
 
   -- With none.
   module _ (z : number ≡ 0) where
-    parts : (numberOf 65535 t ≡ 0) × (wellFormed 65535 (programOf t) s ≡ true)
+    parts : (numberOf workLimit t ≡ 0) × (wellFormed 65535 (programOf t) s ≡ true)
     unfolding unfit
-    parts = fit-parts (numberOf 65535 t) (wellFormed 65535 (programOf t) s) (sym e ∙ z) (decide (eqb (numberOf 65535 t) 0))
+    parts = fit-parts (numberOf workLimit t) (wellFormed 65535 (programOf t) s) (sym e ∙ z) (decide (eqb (numberOf workLimit t) 0))
 
-    module _ {found : Table} (q : found ≡ tableOf 65535 t) where
+    module _ {found : Table} (q : found ≡ tableOf workLimit t) where
       -- What was read is an accepted table.
       pub number-none : found .number ≡ 0
       number-none = number-read t q ∙ parts .0

@@ -9,7 +9,7 @@ use lib.Seq.{drop-drop, drop-set-lt, take-suc, take-suc-set, take-all}
 use borrow.Author.Tests.{ne-eqb, le-leb, lt-leb}
 use Rattle.program.specs.Bodies.{programOf}
 use Rattle.program.specs.Count.{workOf}
-use Rattle.program.specs.Table.{numberOf}
+use Rattle.program.specs.Table.{workLimit, numberOf}
 use Rattle.rules.specs.declared.state.State.{State}
 use Rattle.rules.specs.declared.answer.Completion.the-variants as completion
 use Rattle.rules.specs.declared.answer.Stepped.{Stepped}
@@ -103,20 +103,20 @@ module _ {t : List ℕ} {starts : List ℕ} {work : ℕ} {order before : List �
 
 module _ (t order before : List ℕ) where
   -- Demand 3 of an accepted table.
-  pub demanded : numberOf 65535 t ≡ 0 → AtEveryPoint base t order
+  pub demanded : numberOf workLimit t ≡ 0 → AtEveryPoint base t order
   demanded z = at-every-point base t (omega arith) z order
 
-  pub runs-refused : {n : ℕ} {s : State} → n ≡ numberOf 65535 t → (n ≡ 0 → ⊥) → s ≡ zeroState → Runs t order before before (record { completion = completion.Refused n; state = s })
+  pub runs-refused : {n : ℕ} {s : State} → n ≡ numberOf workLimit t → (n ≡ 0 → ⊥) → s ≡ zeroState → Runs t order before before (record { completion = completion.Refused n; state = s })
   unfolding ranOf answered
   runs-refused {n} e h q = rw q (let z = ne-eqb n 0 h in record { result = rw (sym e, z); buffer = rw (sym e, z); demand = demanded })
 
-  module _ (z : numberOf 65535 t ≡ 0) where
+  module _ (z : numberOf workLimit t ≡ 0) where
     pub runs-short : {s : State} → length before < length order → s ≡ zeroState → Runs t order before before (record { completion = completion.Short; state = s })
     unfolding ranOf answered
     runs-short h q = rw q (let m = lt-leb (length order) (length before) h in record { result = rw (z, m); buffer = rw (z, m); demand = demanded })
 
     -- An order can be followed from the start: each state of a run is well-formed.
-    pub from-start : {starts : List ℕ} {work : ℕ} {s : State} → Known t starts → work ≡ workOf (programOf t) → work ≤ 65535 → length order ≤ length before → s ≡ startState
+    pub from-start : {starts : List ℕ} {work : ℕ} {s : State} → Known t starts → work ≡ workOf (programOf t) → work ≤ workLimit → length order ≤ length before → s ≡ startState
         → Followable t starts work s order (length before)
     from-start known counted small room e =
         rw e

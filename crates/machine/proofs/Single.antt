@@ -10,7 +10,7 @@ use lib.ListN.{length, getD, take}
 use borrow.Author.Tests.{ne-eqb, le-leb, lt-leb}
 use Rattle.program.specs.Bodies.{Program, programOf}
 use Rattle.program.specs.Count.{workOf}
-use Rattle.program.specs.Table.{numberOf}
+use Rattle.program.specs.Table.{workLimit, numberOf}
 use Rattle.rules.specs.declared.state.State.{State}
 use Rattle.rules.specs.declared.state.Status.{Status}
 use Rattle.rules.specs.declared.state.Status.the-variants.{Running, AtBarrier, Ended, Faulted}
@@ -65,9 +65,9 @@ module _ (p : Program) (s : State) (i : ℕ) where
 
 -- THE ORDER
 
-module _ {t : List ℕ} {starts : List ℕ} {s : State} (fit : Fit t starts s) (z : numberOf 65535 t ≡ 0) where
+module _ {t : List ℕ} {starts : List ℕ} {s : State} (fit : Fit t starts s) (z : numberOf workLimit t ≡ 0) where
   -- No state but the first one is on the way.
-  pub one : {work : ℕ} (i : ℕ) → work ≡ workOf (programOf t) → work ≤ 65535 → Followable t starts work s (i ∷ []) 1
+  pub one : {work : ℕ} (i : ℕ) → work ≡ workOf (programOf t) → work ≤ workLimit → Followable t starts work s (i ∷ []) 1
   unfolding runFrom
   one i counted small = record { known = fit .known; accepted = z; counted = counted; small = small; formed = go; fits = omega arith }
     where

@@ -8,6 +8,7 @@ use lib.ListN.{length, getD, set}
 use lib.Seq.{getD-set-same, getD-set-other}
 use borrow.Author.Tests.{ne-eqb}
 use Rattle.program.specs.Bodies.{Program, programOf}
+use Rattle.program.specs.Table.{workLimit}
 use Rattle.program.specs.declared.command.Command.{Command}
 use Rattle.rules.specs.declared.state.Accumulator.{Accumulator}
 use Rattle.rules.specs.declared.state.Activity.{Activity}
@@ -71,7 +72,7 @@ module _ {t starts : List ℕ} {s : State} {i : ℕ} {a : Activity} {f : ℕ} {c
   turn-facing = rw (h .own) (facing (h .fit) made (turn (programOf t) s i (h .goes) .unended) (h .stands))
 
   -- One more step fits.
-  pub stepping : exceeds base (programOf t) s (effect (programOf t) s i) ≡ false → s .steps < 65535
+  pub stepping : exceeds base (programOf t) s (effect (programOf t) s i) ≡ false → s .steps < workLimit
   stepping x = omega (arith, h .worked, room base (programOf t) s (effect (programOf t) s i) x .steps)
 
   -- A fault ends it.

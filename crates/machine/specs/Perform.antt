@@ -6,6 +6,7 @@ use mathlib.Core.Bool.{false}
 use Rattle.program.specs.Bodies.{Program, programOf}
 use Rattle.program.specs.Count.{workOf}
 use Rattle.program.specs.declared.command.Command.{Command}
+use Rattle.program.specs.Table.{workLimit}
 use Rattle.rules.specs.declared.state.Accumulator.{Accumulator}
 use Rattle.rules.specs.declared.state.Activity.{Activity}
 use Rattle.rules.specs.State.{top}
@@ -31,7 +32,7 @@ pub record Touches (p : Program) (e : Shared) (a : Activity) (command : Command)
 
 -- A command that meets no fault and does not exceed.
 pub record Performing (t : List ℕ) (accs : List Accumulator) (e : Shared) (i : ℕ) (a : Activity) (command : Command) (value : ℕ) : Type 0 where
-  pub work : workOf (programOf t) ≤ 65535
+  pub work : workOf (programOf t) ≤ workLimit
   pub reads : Reads accs (a .accumulators) command value
   pub fits : exceeds base (programOf t) (whole [] accs e) (effectHere (programOf t) accs e i a command) ≡ false
 

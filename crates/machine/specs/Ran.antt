@@ -5,7 +5,7 @@ use mathlib.Core.Bool.{cond, _||_}
 use mathlib.Core.Path.{_≡_}
 use lib.ListN.{length, drop}
 use lib.Dec.{leb, eqb}
-use Rattle.program.specs.Table.{numberOf}
+use Rattle.program.specs.Table.{workLimit, numberOf}
 use Rattle.rules.specs.declared.state.State.{State}
 use Rattle.rules.specs.declared.state.Status.{Status}
 use Rattle.rules.specs.declared.answer.Answer.{Answer}
@@ -30,17 +30,17 @@ unfoldable pub ranOf : List ℕ → List ℕ → ℕ → Ran
 ranOf t order room =
     let done = ended Done (run base t order) in
     let short = ended Short zeroState in
-    let refused = ended (Refused (numberOf 65535 t)) zeroState in
-    cond (eqb (numberOf 65535 t) 0) (cond (leb (length order) room) done short) refused
+    let refused = ended (Refused (numberOf workLimit t)) zeroState in
+    cond (eqb (numberOf workLimit t) 0) (cond (leb (length order) room) done short) refused
 
 -- The answers stand at the buffer's start, what is past them stays; a run that is not done leaves it as it was.
 unfoldable pub answered : List ℕ → List ℕ → List ℕ → List ℕ
 answered t order buffer =
     let filled = map answerNumber (answers base t order) ++ drop (length order) buffer in
-    cond (eqb (numberOf 65535 t) 0) (cond (leb (length order) (length buffer)) filled buffer) buffer
+    cond (eqb (numberOf workLimit t) 0) (cond (leb (length order) (length buffer)) filled buffer) buffer
 
 -- What `run` returns, what it leaves in the buffer, and demand 3 at every point of the run of an accepted table.
 pub record Runs (t order before after : List ℕ) (r : Ran) : Type 0 where
   pub result : r ≡ ranOf t order (length before)
   pub buffer : after ≡ answered t order before
-  pub demand : numberOf 65535 t ≡ 0 → AtEveryPoint base t order
+  pub demand : numberOf workLimit t ≡ 0 → AtEveryPoint base t order

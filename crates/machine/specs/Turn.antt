@@ -6,7 +6,7 @@ use mathlib.Core.Bool.{Bool, true, false}
 use lib.ListN.{length, take, drop}
 use Rattle.program.specs.Bodies.{Program, programOf}
 use Rattle.program.specs.Count.{workOf}
-use Rattle.program.specs.Table.{numberOf}
+use Rattle.program.specs.Table.{workLimit, numberOf}
 use Rattle.program.specs.declared.command.Command.{Command}
 use Rattle.rules.specs.declared.state.Accumulator.{Accumulator}
 use Rattle.rules.specs.declared.state.Activity.{Activity}
@@ -28,7 +28,7 @@ use Rattle.guards.specs.declared.look.Seen.{Seen}
 -- Activity i, which is a, is not turned down, and its fault and its command are known.
 pub record Turn (t : List ℕ) (starts : List ℕ) (s : State) (i : ℕ) (a : Activity) (f : ℕ) (command : Command) : Type 0 where
   pub fit : Fit t starts s
-  pub worked : workOf (programOf t) ≤ 65535
+  pub worked : workOf (programOf t) ≤ workLimit
   pub own : a ≡ act s i
   pub goes : refusal (programOf t) s i ≡ 0
   pub met : f ≡ fault (programOf t) s i
@@ -54,7 +54,7 @@ Taken t starts e i a seen r = (acts : List Activity) (accs : List Accumulator) �
 pub record DueAt (t : List ℕ) (starts : List ℕ) (work : ℕ) (accs : List Accumulator) (e : Shared) (i : ℕ) (a : Activity) (seen : Seen) (waits : Bool) (acts : List Activity) : Type 0 where
   pub fit : Fit t starts (whole acts accs e)
   pub counted : work ≡ workOf (programOf t)
-  pub small : work ≤ 65535
+  pub small : work ≤ workLimit
   pub view : Viewed (programOf t) accs e i a seen waits acts
 
 pub record Due (t : List ℕ) (starts : List ℕ) (work : ℕ) (e : Shared) (i : ℕ) (a : Activity) (seen : Seen) (waits : Bool) : Type 0 where
@@ -76,9 +76,9 @@ Turned t starts work e i a seen waits r = (acts : List Activity) (accs : List Ac
 -- An order that can be followed: each state on the way is well-formed, and there is room for an answer to each step.
 pub record Followable (t : List ℕ) (starts : List ℕ) (work : ℕ) (s : State) (order : List ℕ) (room : ℕ) : Type 0 where
   pub known : Known t starts
-  pub accepted : numberOf 65535 t ≡ 0
+  pub accepted : numberOf workLimit t ≡ 0
   pub counted : work ≡ workOf (programOf t)
-  pub small : work ≤ 65535
+  pub small : work ≤ workLimit
   pub formed : (k : ℕ) → k < length order → wellFormed 65535 (programOf t) (runFrom base t s (take k order)) ≡ true
   pub fits : length order ≤ room
 

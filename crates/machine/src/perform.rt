@@ -1,5 +1,6 @@
 // A step that goes on, and a step that faults.
 ghost use Prim.Native.Nat.{_<_};
+ghost use Rattle.program.specs.Table.{workLimit};
 ghost use Rattle.rules.specs.declared.state.Status.the-variants.{Faulted};
 ghost use Rattle.rules.specs.State.{faultOf};
 ghost use Rattle.rules.specs.Effects.{failing};
@@ -57,7 +58,7 @@ pub fn perform(
 
 // A fault ends the activity.
 pub fn fail(e: Shared, a: Activity, fault: u8) -> Change
-    requires { ⌜ e .steps < 65535 ⌝ }
+    requires { ⌜ e .steps < workLimit ⌝ }
     ensures { λ r. ⌜ Does e r (failing a (Faulted (faultOf fault))) ⌝ }
 {
     let own = stopped(a, Status::Faulted(fault_of(fault)));

@@ -8,7 +8,7 @@ use mathlib.Core.Logic.{_⊎_, inl, inr}
 use lib.ListN.{length}
 use lib.Dec.{eqb}
 use borrow.Author.Tests.{eqb-true, ne-eqb, le-leb, lt-leb}
-use Rattle.program.specs.Table.{numberOf}
+use Rattle.program.specs.Table.{workLimit, numberOf}
 use Rattle.rules.specs.declared.state.State.{State}
 use Rattle.rules.specs.declared.answer.Stepped.{Stepped}
 use Rattle.rules.specs.State.{answerNumber}
@@ -28,22 +28,22 @@ number-with n (inl h) = rw h (sym (eqb-true n 0 h))
 number-with n (inr h) = rw h
 
 module _ (t : List ℕ) {started : Stepped} (e : started ≡ start base t) where
-  pub start-number : {n : ℕ} → n ≡ answerNumber (started .answer) → n ≡ numberOf 65535 t
+  pub start-number : {n : ℕ} → n ≡ answerNumber (started .answer) → n ≡ numberOf workLimit t
   unfolding start
-  start-number h = h ∙ ap (λ (x : Stepped). answerNumber (x .answer)) e ∙ number-with (numberOf 65535 t) (decide (eqb (numberOf 65535 t) 0))
+  start-number h = h ∙ ap (λ (x : Stepped). answerNumber (x .answer)) e ∙ number-with (numberOf workLimit t) (decide (eqb (numberOf workLimit t) 0))
 
-  pub start-state : numberOf 65535 t ≡ 0 → started .state ≡ startState
+  pub start-state : numberOf workLimit t ≡ 0 → started .state ≡ startState
   unfolding start startWith
   start-state z = ap (λ (x : Stepped). x .state) e ∙ rw z
 
 -- WHAT IT PROMISES
 
 module _ (t order before : List ℕ) where
-  pub paces-refused : {n : ℕ} → n ≡ numberOf 65535 t → (n ≡ 0 → ⊥) → (n ≡ pacesNumber t (length order) (length before)) × (before ≡ answered t order before)
+  pub paces-refused : {n : ℕ} → n ≡ numberOf workLimit t → (n ≡ 0 → ⊥) → (n ≡ pacesNumber t (length order) (length before)) × (before ≡ answered t order before)
   unfolding pacesNumber answered
   paces-refused {n} e h = let z = ne-eqb n 0 h in (rw (sym e, z), rw (sym e, z))
 
-  module _ (z : numberOf 65535 t ≡ 0) where
+  module _ (z : numberOf workLimit t ≡ 0) where
     pub paces-short : length before < length order → (13 ≡ pacesNumber t (length order) (length before)) × (before ≡ answered t order before)
     unfolding pacesNumber answered
     paces-short h = let m = lt-leb (length order) (length before) h in (rw (z, m), rw (z, m))

@@ -1,12 +1,13 @@
 -- Small laws of tests and lists that know nothing of tables.
-use Prim.Native.Nat.{ℕ, zero, suc, _-_, _≤_, _<_}
+use Prim.Native.Nat.{ℕ, zero, suc, _+_, _-_, _≤_, _<_}
 use native.Mathlib.Omega.{arith}
 use native.Mathlib.Decide.{ℕ-discrete}
 use mathlib.Core.List.{List, [], _∷_, _++_}
 use mathlib.Core.Bool.{Bool, true, false, cond, _||_, _&&_, not}
 use mathlib.Core.Path.{_≡_, refl, sym, ap}
 use mathlib.Core.Logic.{_⊎_, inl, inr}
-use lib.ListN.{getD, drop, replicate}
+use lib.ListN.{getD, take, drop, replicate}
+use lib.Seq.{getD-drop}
 use lib.Dec.{eqb}
 use borrow.Author.Tests.{ne-eqb}
 -- TESTS
@@ -101,6 +102,23 @@ getD-padded [] (suc n) zero d = refl
 getD-padded [] (suc n) (suc j) d = getD-padded [] n j d
 getD-padded (x ∷ l) n zero d = refl
 getD-padded (x ∷ l) n (suc j) d = getD-padded l n j d
+
+-- BYTES
+
+-- Each entry is below 256, and so is the 0 that stands past the end.
+abbrev pub Bytes : List ℕ → Type 0
+Bytes b = (i : ℕ) → getD b i 0 < 256
+
+-- What lies behind some bytes is bytes,
+pub bytes-drop : (k : ℕ) (b : List ℕ) → Bytes b → Bytes (drop k b)
+bytes-drop k b h i = rw getD-drop (h (k + i))
+
+-- and so are the first of them.
+pub bytes-take : (k : ℕ) (b : List ℕ) → Bytes b → Bytes (take k b)
+bytes-take zero b h i = omega arith
+bytes-take (suc k) [] h i = omega arith
+bytes-take (suc k) (x ∷ b) h zero = h 0
+bytes-take (suc k) (x ∷ b) h (suc i) = bytes-take k b (λ j. h (suc j)) i
 
 -- NUMBERS
 

@@ -15,7 +15,7 @@ use Rattle.program.specs.declared.command.Command.{Command}
 use Rattle.program.specs.declared.command.Command.the-variants.{Read}
 use Rattle.program.specs.declared.reading.Reading.{Reading}
 use Rattle.program.specs.declared.reading.Reading.the-variants.{Whole, Unknown, Cut, Outside}
-use Rattle.program.proofs.Basic.{and-true}
+use Rattle.program.proofs.Basic.{Bytes, and-true}
 use Rattle.program.proofs.RowLaws.{plain, plain-tail}
 
 -- Below a bound is from 0 to one less.
@@ -41,11 +41,7 @@ any-within : (x : ℕ) → x < 256 → withinCode 0 x ≡ true
 unfolding withinCode ranges
 any-within x h = sym (any-byte x h)
 
-Bytes : List ℕ → Type 0
-Bytes vs = (i : ℕ) → getD vs i 0 < 256
-
 inside-plain : (os : List Operand) (vs : List ℕ) → Bytes vs → plain os ≡ true → allInside os vs ≡ true
-unfolding Bytes
 inside-plain [] vs h p = refl
 inside-plain (o ∷ os) [] h p = refl
 inside-plain (o ∷ os) (v ∷ vs) h p =
@@ -59,7 +55,6 @@ code os i = getD (map kindCode os) i 0
 
 inside-three : (os : List Operand) (vs : List ℕ) → Bytes vs → length os ≤ length vs → plain (drop 3 os) ≡ true
     → allInside os vs ≡ withinCode (code os 0) (getD vs 0 0) && (withinCode (code os 1) (getD vs 1 0) && withinCode (code os 2) (getD vs 2 0))
-unfolding Bytes
 inside-three [] vs h l p = rw (any-within _ (h 0), any-within _ (h 1), any-within _ (h 2))
 inside-three (a ∷ []) [] h l p = absurd (let y : ⊥ = omega arith in y)
 inside-three (a ∷ []) (v ∷ vs) h l p = rw (inside-code a v (h 0), any-within _ (h 1), any-within _ (h 2))
@@ -83,7 +78,7 @@ inside-three (a ∷ (b ∷ (c ∷ os))) (v ∷ (w ∷ (u ∷ vs))) h l p =
 all-inside : (op : ℕ) (vs : List ℕ) → ((i : ℕ) → getD vs i 0 < 256) → length (rowAt op .operands) ≤ length vs
     → allInside (rowAt op .operands) vs
     ≡ withinCode (getD (coded (rowAt op)) 1 0) (getD vs 0 0) && (withinCode (getD (coded (rowAt op)) 2 0) (getD vs 1 0) && withinCode (getD (coded (rowAt op)) 3 0) (getD vs 2 0))
-unfolding coded Bytes
+unfolding coded
 all-inside op vs h l = inside-three (rowAt op .operands) vs h l (plain-tail op)
 
 code-few : (os : List Operand) (i : ℕ) → code os i < 9

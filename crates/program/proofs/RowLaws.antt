@@ -5,10 +5,10 @@ use mathlib.Core.List.{List, [], _∷_, map}
 use Prim.Native.Nat.{ℕ, zero, suc, _+_, _*_, _/_, _%_, _^_, _<_, _≤_}
 use native.Mathlib.Decide.{ℕ-discrete}
 use native.Mathlib.Omega.{arith}
-use lib.Dec.{eqb, ltb}
-use lib.ListN.{length, getD, drop, List·getD-append}
-use borrow.Author.Tests.{ne-eqb, eqb-true, lt-ltb, le-ltb}
-use Rattle.program.specs.Command.{Operand, clockName, accumulatorName, operatorCode, mask, bodyNumber, runCount, commandCount, cellNumber, valueByte, Row, rows, rowAt, rowOf, opcode, operandsOf, operandWhere, has, isBody, isRunCount, isCommandCount}
+use lib.Dec.{eqb, ltb, leb}
+use lib.ListN.{length, getD, drop, List·getD-append, List·getD-eq-default}
+use borrow.Author.Tests.{leb-true, ne-eqb, eqb-true, lt-ltb, le-ltb}
+use Rattle.program.specs.Command.{Operand, clockName, accumulatorName, operatorCode, mask, bodyNumber, runCount, commandCount, cellNumber, valueByte, Row, rows, rowAt, widthAt, rowOf, opcode, operandsOf, operandWhere, has, isBody, isRunCount, isCommandCount}
 use Rattle.program.specs.Inner.Coding.{kindCode, isKind, coded, padded, slotIn, digits, packed}
 use Rattle.program.specs.declared.command.Command.{Command}
 use Rattle.program.specs.declared.command.Command.the-variants.{End, Next, Clock, Resume, Drop, Async, Finish, Repeat, Acc, Offer, Read, Reset, Put, Fetch, Store, Add, Atom}
@@ -92,6 +92,17 @@ plain (o ∷ os) = eqb (kindCode o) 0 && plain os
 pub plain-tail : (op : ℕ) → plain (drop 3 (rowAt op .operands)) ≡ true
 unfolding rowAt rows everywhere
 plain-tail op = each (λ (r : Row). plain (drop 3 (r .operands))) rows (record { operands = []; work = 0; activities = 0; clocks = 0; accumulators = 0 }) refl refl op
+
+-- A command byte and its operands are at most five bytes, and the byte of no command is one.
+pub width-few : (op : ℕ) → widthAt op ≤ 5
+unfolding widthAt rowAt rows everywhere
+width-few op =
+    let h : length (rowAt op .operands) ≤ 4 = leb-true _ _ (each (λ (r : Row). leb (length (r .operands)) 4) rows (record { operands = []; work = 0; activities = 0; clocks = 0; accumulators = 0 }) refl refl op) in
+    omega arith
+
+pub width-alone : (op : ℕ) → 17 ≤ op → widthAt op ≡ 1
+unfolding widthAt rowAt rows
+width-alone op h = rw (List·getD-eq-default rows (record { operands = []; work = 0; activities = 0; clocks = 0; accumulators = 0 }) h)
 
 module _ (kind : ℕ) (some : 0 < kind) where
   none : eqb 0 kind ≡ false

@@ -15,7 +15,7 @@ use Rattle.program.specs.Inner.Scanned.{refusedBy, scannedOf}
 use Rattle.program.specs.Count.{tally, ownActivities, workOf, activitiesOf, clocksOf, accumulatorsOf}
 use Rattle.program.specs.Inner.Coding.{weight}
 use Rattle.program.specs.Inner.Counting.{cap, Counts, overCounts}
-use Rattle.program.specs.Table.{overCount, numberOf, counted, refusedWith, tableOf}
+use Rattle.program.specs.Table.{workLimit, overCount, numberOf, counted, refusedWith, tableOf}
 use Rattle.program.specs.declared.scan.Scanned.{Scanned}
 
 -- A limit below the cap is passed by the saturated count where it is by the count itself.
@@ -38,7 +38,7 @@ unfolding Counts weight workOf clocksOf accumulatorsOf
 totals t r h = record { work-is = h 0 (omega arith); activities-is = h 1 (omega arith); clocks-is = h 2 (omega arith); accumulators-is = h 3 (omega arith) }
 
 module _ (t r : List ℕ) (h : Counts t 0 r) where
-  pub over-same : overCounts r ≡ overCount 65535 (programOf t)
+  pub over-same : overCounts r ≡ overCount workLimit (programOf t)
   unfolding overCounts overCount activitiesOf
   over-same =
       let o = totals t r h in
@@ -52,7 +52,7 @@ module _ (t r : List ℕ) (h : Counts t 0 r) where
         cap-over 63 (tally ownActivities (programOf t) 0) (omega arith),
         cap-over 16 (clocksOf (programOf t)) (omega arith),
         cap-over 16 (accumulatorsOf (programOf t)) (omega arith),
-        cap-over 65535 (workOf (programOf t)) (omega arith),
+        cap-over workLimit (workOf (programOf t)) (omega arith),
       )
 
 -- None of the limits is passed.
@@ -60,13 +60,13 @@ record Within (r : List ℕ) : Type 0 where
   activities-few : getD r 1 0 ≤ 63
   clocks-few : getD r 2 0 ≤ 16
   accumulators-few : getD r 3 0 ≤ 16
-  work-few : getD r 0 0 ≤ 65535
+  work-few : getD r 0 0 ≤ workLimit
 
 within : (r : List ℕ) → overCounts r ≡ 0 → Within r
 unfolding overCounts
-within r h = by (ltb 63 (getD r 1 0)) (ltb 16 (getD r 2 0)) (ltb 16 (getD r 3 0)) (ltb 65535 (getD r 0 0)) refl refl refl refl h
+within r h = by (ltb 63 (getD r 1 0)) (ltb 16 (getD r 2 0)) (ltb 16 (getD r 3 0)) (ltb workLimit (getD r 0 0)) refl refl refl refl h
   where
-    by : (a c u w : Bool) → ltb 63 (getD r 1 0) ≡ a → ltb 16 (getD r 2 0) ≡ c → ltb 16 (getD r 3 0) ≡ u → ltb 65535 (getD r 0 0) ≡ w
+    by : (a c u w : Bool) → ltb 63 (getD r 1 0) ≡ a → ltb 16 (getD r 2 0) ≡ c → ltb 16 (getD r 3 0) ≡ u → ltb workLimit (getD r 0 0) ≡ w
         → _≡_ {A = ℕ} (cond a 9 (cond c 10 (cond u 11 (cond w 12 0)))) 0 → Within r
     by true c u w p q s z g = absurd (let y : ⊥ = omega arith in y)
     by false true u w p q s z g = absurd (let y : ⊥ = omega arith in y)
@@ -87,7 +87,7 @@ module _ (t : List ℕ) where
 
   -- WHAT THE TABLE IS ANSWERED
 
-  pub table-unread : {number : ℕ} → scan t ≡ number → (number ≡ 0 → ⊥) → refusedWith number ≡ tableOf 65535 t
+  pub table-unread : {number : ℕ} → scan t ≡ number → (number ≡ 0 → ⊥) → refusedWith number ≡ tableOf workLimit t
   unfolding tableOf numberOf
   table-unread e some = rw (e, ne-eqb _ _ some, ne-eqb _ _ some)
 
@@ -97,12 +97,12 @@ module _ (t : List ℕ) where
     scanned-layout = rw read
 
     module _ (r : List ℕ) (h : Counts t 0 r) where
-      pub table-over : {number : ℕ} → overCounts r ≡ number → (number ≡ 0 → ⊥) → refusedWith number ≡ tableOf 65535 t
+      pub table-over : {number : ℕ} → overCounts r ≡ number → (number ≡ 0 → ⊥) → refusedWith number ≡ tableOf workLimit t
       unfolding tableOf numberOf
       table-over e some = rw (read, ← over-same t r h, e, ne-eqb _ _ some)
 
       pub table-counted : overCounts r ≡ 0
-          → record { number = 0; layout = layoutOf t; work = getD r 0 0; activities = getD r 1 0 + 1; clocks = getD r 2 0; accumulators = getD r 3 0 } ≡ tableOf 65535 t
+          → record { number = 0; layout = layoutOf t; work = getD r 0 0; activities = getD r 1 0 + 1; clocks = getD r 2 0; accumulators = getD r 3 0 } ≡ tableOf workLimit t
       unfolding tableOf numberOf counted activitiesOf
       table-counted e =
           let o = totals t r h in

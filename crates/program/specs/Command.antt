@@ -62,6 +62,10 @@ rows =
 unfoldable pub rowAt : ℕ → Row
 rowAt op = getD rows op (row [] 0 0 0 0)
 
+-- The bytes of a command byte and its operands. A byte that is no command stands alone.
+unfoldable pub widthAt : ℕ → ℕ
+widthAt op = length (rowAt op .operands) + 1
+
 -- A command's byte.
 abbrev pub opcode : Command → ℕ
 opcode End = 0x00

@@ -8,6 +8,10 @@ use Rattle.program.specs.Scan.{scan, layoutOf, noLayout}
 use Rattle.program.specs.Count.{workOf, activitiesOf, clocksOf, accumulatorsOf}
 use Rattle.program.specs.declared.table.Table.{Table}
 
+-- "12. Work is above 65,535."
+abbrev pub workLimit : ℕ
+workLimit = 65535
+
 -- "9. Activities are above 64. 10. Clocks are above 16. 11. Accumulators are above 16. 12. Work is above 65,535." The work limit is a parameter.
 unfoldable pub overCount : ℕ → Program → ℕ
 overCount limit p =

@@ -2,7 +2,7 @@
 ghost use mathlib.Core.Path.{_≡_};
 ghost use mathlib.Core.List.{[], _∷_};
 ghost use Prim.Native.Nat.{_+_, _<_, _%_, _/_};
-ghost use Rattle.program.specs.Command.{rowOf, opcode, operandsOf, width, names, named, times, held, isEnd, usesCell, operandWhere};
+ghost use Rattle.program.specs.Command.{widthAt, rowOf, opcode, operandsOf, width, names, named, times, held, isEnd, usesCell, operandWhere};
 ghost use Rattle.program.specs.Inner.Coding.{isKind, padded};
 use super::rows::column;
 use super::rows::slot;
@@ -128,6 +128,14 @@ pub fn width(command: Command) -> usize
     ensures { λ r. ⌜ r ≡ width command ⌝ }
 {
     column(opcode(command), 0)
+}
+
+// The bytes of a command byte and its operands, 1 where no command has this byte.
+pub fn width_at(op: u8) -> usize
+    ensures { λ r. ⌜ r ≡ widthAt op ⌝ }
+{
+    let row = wide(op);
+    if row < 17 { column(row, 0) } else { 1 }
 }
 
 // Whether a command names a body.

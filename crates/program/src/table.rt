@@ -2,7 +2,7 @@
 ghost use mathlib.Core.Path.{_≡_};
 ghost use Prim.Native.Nat.{_+_};
 ghost use lib.ListN.{getD};
-ghost use Rattle.program.specs.Table.{tableOf, refusedWith};
+ghost use Rattle.program.specs.Table.{workLimit, tableOf, refusedWith};
 ghost use Rattle.program.specs.Inner.Counting.{overCounts};
 use super::count::counts;
 use super::scan::Layout;
@@ -56,7 +56,7 @@ fn over(totals: [u64; 4]) -> u8
 
 // Reads and counts a table: numbers 1 to 12 in checking order.
 pub fn read_table(table: &[u8]) -> Table
-    ensures { λ r. ⌜ r ≡ tableOf 65535 (now (table .entry)) ⌝ }
+    ensures { λ r. ⌜ r ≡ tableOf workLimit (now (table .entry)) ⌝ }
 {
     let scanned = scan(table);
     let number = scanned.number;

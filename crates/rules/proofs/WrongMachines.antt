@@ -7,7 +7,7 @@ use mathlib.Core.Path.{_≡_, ap}
 use lib.Dec.{eqb}
 use Rattle.program.specs.Bodies.{programOf}
 use Rattle.program.specs.Count.{workOf}
-use Rattle.program.specs.Table.{numberOf}
+use Rattle.program.specs.Table.{workLimit, numberOf}
 use Rattle.rules.specs.declared.state.Status.the-variants.{Running}
 use Rattle.rules.specs.declared.state.State.{State}
 use Rattle.rules.specs.declared.answer.Answer.the-variants.{Accepted, Refused}
@@ -68,6 +68,6 @@ unfolding opened idle
 idle-differs h = let e : _≡_ {A = ℕ} 0 1 = ap (λ (r : Stepped). r .state .steps) (h pair startState 0) in omega arith
 
 -- "a reader that turns down each table"
-pub refusing-differs : (reader : List ℕ → ℕ) → ((t : List ℕ) → reader t ≡ 0 → ⊥) → ((t : List ℕ) → reader t ≡ numberOf 65535 t) → ⊥
+pub refusing-differs : (reader : List ℕ → ℕ) → ((t : List ℕ) → reader t ≡ 0 → ⊥) → ((t : List ℕ) → reader t ≡ numberOf workLimit t) → ⊥
 unfolding opened
 refusing-differs reader never h = let e : reader (0x01 ∷ 0x00 ∷ []) ≡ 0 = h (0x01 ∷ 0x00 ∷ []) in never (0x01 ∷ 0x00 ∷ []) e

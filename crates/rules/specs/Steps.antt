@@ -6,7 +6,7 @@ use lib.ListN.{set, replicate}
 use lib.Dec.{ltb, leb, eqb}
 use Rattle.program.specs.Bodies.{Located, Program, programOf}
 use Rattle.program.specs.Count.{workOf}
-use Rattle.program.specs.Table.{numberOf}
+use Rattle.program.specs.Table.{workLimit, numberOf}
 use Rattle.rules.specs.declared.state.Status.{Status}
 use Rattle.rules.specs.declared.state.Status.the-variants.{Running, AtBarrier, Ended, Faulted}
 use Rattle.rules.specs.declared.state.Hold.{Hold}
@@ -32,7 +32,7 @@ pub record Limits : Type 0 where
 
 -- "12. Work is above 65,535." "phases 65,535"
 abbrev pub base : Limits
-base = record { work = 65535; phase = 65535 }
+base = record { work = workLimit; phase = 65535 }
 
 -- ONE ACTIVITY
 

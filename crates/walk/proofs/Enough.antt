@@ -9,16 +9,16 @@ use lib.Dec.{leb}
 use lib.ListN.{length, take}
 use lib.Seq.{take-all, length-take-le}
 use Rattle.program.specs.Scan.{fitsLength, scan}
-use Rattle.program.specs.Table.{numberOf}
+use Rattle.program.specs.Table.{workLimit, numberOf}
 use Rattle.walk.specs.Walked.{walked}
 
 -- "1. The table has fewer than 2 or more than 2,048 bytes."
-too-long : (t : List ℕ) → 2048 < length t → numberOf 65535 t ≡ 1
+too-long : (t : List ℕ) → 2048 < length t → numberOf workLimit t ≡ 1
 unfolding numberOf scan fitsLength
 too-long t h = let low : 2 ≤ length t = omega arith in rw (le-leb 2 (length t) low, lt-leb (length t) 2048 h)
 
 -- Two tables of number 1 print the same.
-same-refusal : (t u order : List ℕ) → numberOf 65535 t ≡ 1 → numberOf 65535 u ≡ 1 → walked t order ≡ walked u order
+same-refusal : (t u order : List ℕ) → numberOf workLimit t ≡ 1 → numberOf workLimit u ≡ 1 → walked t order ≡ walked u order
 unfolding walked
 same-refusal t u order a b = rw (a, b)
 

@@ -8,7 +8,7 @@ use lib.ListN.{length, take, drop, length-map, length-append}
 use lib.Seq.{take-at}
 use Rattle.program.specs.Bodies.{programOf}
 use Rattle.program.specs.Count.{workOf}
-use Rattle.program.specs.Table.{numberOf}
+use Rattle.program.specs.Table.{workLimit, numberOf}
 use Rattle.rules.specs.declared.state.Status.{Status}
 use Rattle.rules.specs.declared.state.Status.the-variants.{Running, AtBarrier, Ended, Faulted}
 use Rattle.rules.specs.declared.state.State.{State}
@@ -40,7 +40,7 @@ accepted-counts AtBarrier = steps-zero refl
 accepted-counts Ended = steps-zero refl
 accepted-counts (Faulted f) = steps-fault (λ e. omega arith) (omega arith)
 
-module _ (t : List ℕ) (z : numberOf 65535 t ≡ 0) where
+module _ (t : List ℕ) (z : numberOf workLimit t ≡ 0) where
   -- The steps taken rise by what the answer's number says.
   steps-number : (s : State) → Good base t s → (i : ℕ) → step base t s i .state .steps ≡ s .steps + stepsOf (answerNumber (step base t s i .answer))
   steps-number s g i = go (call base t (omega arith) z s g i)
@@ -80,7 +80,7 @@ unfolding answersFrom
 answers-length t s [] = refl
 answers-length t s (i ∷ order) = let q = answers-length t (step base t s i .state) order in omega arith
 
-module _ (t order before : List ℕ) {after : List ℕ} {r : Ran} (ran : Runs t order before after r) (room : length order ≤ length before) (z : numberOf 65535 t ≡ 0) where
+module _ (t order before : List ℕ) {after : List ℕ} {r : Ran} (ran : Runs t order before after r) (room : length order ≤ length before) (z : numberOf workLimit t ≡ 0) where
   -- The state that a run leaves, and its buffer.
   state-left : r .state ≡ run base t order
   unfolding ranOf
@@ -119,6 +119,6 @@ module _ (t order before : List ℕ) {after : List ℕ} {r : Ran} (ran : Runs t 
       ∙ sym (made t z order)
 
 -- The line of a table turned down is the text by the rules.
-pub printed-refused : (t order : List ℕ) → (numberOf 65535 t ≡ 0 → ⊥) → refusedOf (numberOf 65535 t) ≡ walked t order
+pub printed-refused : (t order : List ℕ) → (numberOf workLimit t ≡ 0 → ⊥) → refusedOf (numberOf workLimit t) ≡ walked t order
 unfolding walked
-printed-refused t order n = rw (ne-eqb (numberOf 65535 t) 0 n)
+printed-refused t order n = rw (ne-eqb (numberOf workLimit t) 0 n)

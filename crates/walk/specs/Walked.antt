@@ -6,7 +6,7 @@ use mathlib.Core.List.{List, [], _∷_, _++_}
 use lib.Dec.{eqb}
 use Rattle.program.specs.Bodies.{programOf}
 use Rattle.program.specs.Count.{workOf}
-use Rattle.program.specs.Table.{numberOf}
+use Rattle.program.specs.Table.{workLimit, numberOf}
 use Rattle.rules.specs.declared.state.State.{State}
 use Rattle.rules.specs.Search.{countBelow}
 use Rattle.rules.specs.State.{answerNumber, ended}
@@ -29,5 +29,5 @@ totalIn t s = totalOf (workOf (programOf t)) (s .steps) (countBelow (s .activiti
 unfoldable pub walked : List ℕ → List ℕ → List ℕ
 walked t order =
     let whole = headerOf ++ linesOf t 0 (start base t .state) order ++ totalIn t (run base t order) in
-    let refused = refusedOf (numberOf 65535 t) in
-    cond (eqb (numberOf 65535 t) 0) whole refused
+    let refused = refusedOf (numberOf workLimit t) in
+    cond (eqb (numberOf workLimit t) 0) whole refused

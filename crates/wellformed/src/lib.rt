@@ -1,7 +1,7 @@
 // Number 13 of document 01: whether a state is fit for its table.
 ghost use mathlib.Core.Path.{_≡_};
 ghost use Rattle.program.specs.Bodies.{programOf};
-ghost use Rattle.program.specs.Table.{numberOf, tableOf};
+ghost use Rattle.program.specs.Table.{workLimit, numberOf, tableOf};
 ghost use Rattle.rules.specs.Steps.{base, unfit};
 use program::places::places;
 use program::table::Table;
@@ -24,7 +24,7 @@ pub struct Checked {
 
 // Numbers 1 to 13 in checking order: the table's, then the state's.
 pub fn check(table: &[u8], s: State) -> Checked
-    ensures { λ r. ⌜ (r .number ≡ unfit base (numberOf 65535 (now (table .entry))) (programOf (now (table .entry))) s) × (r .table ≡ tableOf 65535 (now (table .entry))) ⌝ }
+    ensures { λ r. ⌜ (r .number ≡ unfit base (numberOf workLimit (now (table .entry))) (programOf (now (table .entry))) s) × (r .table ≡ tableOf workLimit (now (table .entry))) ⌝ }
 {
     let read = read_table(table);
     let number = read.number;

@@ -1,6 +1,6 @@
 -- The table's number, too little room, or the order followed from the start.
 use mathlib.Core.Path.{_≡_}
-use Rattle.program.specs.Table.{numberOf}
+use Rattle.program.specs.Table.{workLimit, numberOf}
 use Rattle.machine.proofs.Calls.{number-read, accepted-read, known-read, work-read, work-small}
 use Rattle.machine.proofs.Runs.{from-start, runs-refused, runs-short, runs-done}
 use borrow.Author.Needs.{needs}
@@ -11,7 +11,7 @@ use Rattle.machine.proofs.run.Tie as tie
 abbrev start : tie.Else1 → tie.Start
 start c = c .before .before .before .before .before
 
-accepted : (c : tie.Else1) → numberOf 65535 (start c .args .table .now) ≡ 0
+accepted : (c : tie.Else1) → numberOf workLimit (start c .args .table .now) ≡ 0
 accepted c = accepted-read (start c .args .table .now) (c .before .read-table .ensures) (c .if1 .left)
 
 read-table-requires : tie.Need-read-table-requires

@@ -3,7 +3,7 @@ use native.Mathlib.Omega.{arith}
 use mathlib.Core.Path.{_≡_, refl, sym, ap, _∙_}
 use lib.ListN.{length}
 use Rattle.program.specs.Bodies.{programOf}
-use Rattle.program.specs.Table.{numberOf}
+use Rattle.program.specs.Table.{workLimit, numberOf}
 use Rattle.rules.specs.declared.answer.Answer.{Answer}
 use Rattle.rules.specs.declared.answer.Stepped.{Stepped}
 use Rattle.rules.specs.State.{answerNumber}
@@ -31,7 +31,7 @@ fit c = let k = c .before .check .ensures in fit-checked (start c .args .table .
 none : (c : tie.Else1) → c .before .check .result .table .number ≡ 0
 none c = let k = c .before .check .ensures in number-none (start c .args .table .now) (start c .args .s) (k .0) (c .if1 .left) (k .1)
 
-accepted : (c : tie.Else1) → numberOf 65535 (start c .args .table .now) ≡ 0
+accepted : (c : tie.Else1) → numberOf workLimit (start c .args .table .now) ≡ 0
 accepted c = accepted-read (start c .args .table .now) (c .before .check .ensures .1) (none c)
 
 is-step : (c : tie.Else1) {r : Stepped} → r ≡ advance base (programOf (start c .args .table .now)) (start c .args .s) (start c .args .activity)

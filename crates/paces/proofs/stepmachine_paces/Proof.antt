@@ -3,7 +3,7 @@ use Prim.Native.Nat.{_-_, _≤_}
 use native.Mathlib.Omega.{arith}
 use mathlib.Core.Path.{_≡_, sym, _∙_}
 use lib.ListN.{length}
-use Rattle.program.specs.Table.{numberOf}
+use Rattle.program.specs.Table.{workLimit, numberOf}
 use Rattle.rules.specs.Steps.{startState}
 use Rattle.machine.proofs.Runs.{Under, under-start, under-step}
 use Rattle.paces.proofs.Laws.{start-number, start-state, paces-refused, paces-short, paces-done}
@@ -11,7 +11,7 @@ use Rattle.paces.proofs.stepmachine_paces.Statement.{statement}
 use Rattle.paces.proofs.stepmachine_paces.Tie as tie
 
 abbrev Inv-loop : tie.InvT-loop
-Inv-loop table order answers₀ number state₀ k₀ answers state k = (numberOf 65535 table ≡ 0) × (length order ≤ length answers₀) × (state₀ ≡ startState) × Under table order answers₀ state₀ state answers k
+Inv-loop table order answers₀ number state₀ k₀ answers state k = (numberOf workLimit table ≡ 0) × (length order ≤ length answers₀) × (state₀ ≡ startState) × Under table order answers₀ state₀ state answers k
 
 abbrev μ-loop : tie.MeasureT-loop
 μ-loop table order answers₀ number state₀ k₀ answers state k = length order - k

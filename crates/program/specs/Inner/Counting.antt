@@ -12,13 +12,14 @@ use Rattle.program.specs.Inner.Coding.{weight}
 use Rattle.program.specs.Scan.{scan, layoutOf}
 use Rattle.program.specs.declared.command.Command.{Command}
 use Rattle.program.specs.declared.scan.Layout.{Layout}
+use Rattle.program.specs.Table.{workLimit}
 
--- The counts are saturated at 65,536, one above the greatest limit.
+-- The counts are saturated one above the greatest limit.
 abbrev pub cap : ℕ → ℕ
-cap x = min x 65536
+cap x = min x (workLimit + 1)
 
 unfoldable pub Small : List ℕ → Type 0
-Small sums = (k : ℕ) → k < 4 → getD sums k 0 ≤ 65536
+Small sums = (k : ℕ) → k < 4 → getD sums k 0 ≤ workLimit + 1
 
 -- The sums with a command more, which runs a body of these counts so many times.
 unfoldable pub Added : List ℕ → Command → ℕ → List ℕ → List ℕ → Type 0
@@ -47,4 +48,4 @@ pub record Filled (t : List ℕ) (body : ℕ) (notes : List (List ℕ)) : Type 0
 
 -- Numbers 9 to 12 by the four counts of body 0, main not yet among them; 0 where none is met.
 unfoldable pub overCounts : List ℕ → ℕ
-overCounts r = cond (ltb 63 (getD r 1 0)) 9 (cond (ltb 16 (getD r 2 0)) 10 (cond (ltb 16 (getD r 3 0)) 11 (cond (ltb 65535 (getD r 0 0)) 12 0)))
+overCounts r = cond (ltb 63 (getD r 1 0)) 9 (cond (ltb 16 (getD r 2 0)) 10 (cond (ltb 16 (getD r 3 0)) 11 (cond (ltb workLimit (getD r 0 0)) 12 0)))

@@ -5,7 +5,8 @@ use mathlib.Core.Path.{_≡_, sym, ap, _∙_}
 use lib.ListN.{length, drop, length-drop}
 use lib.Seq.{drop-length}
 use Rattle.encoding.specs.Bytes.{numberOf}
-use Rattle.encoding.proofs.NumberLaws.{Bytes, bytes-drop, number-below, number-more}
+use Rattle.program.proofs.Basic.{Bytes, bytes-drop}
+use Rattle.encoding.proofs.NumberLaws.{number-below, number-more}
 use Rattle.encoding.proofs.numbers.number.Statement.{statement}
 use Rattle.encoding.proofs.numbers.number.Tie as tie
 
