@@ -21,6 +21,7 @@ pub enum Refusal {
     HasEnded = 15,
     Waits = 16,
     OverLimit = 17,
+    ShortBuffer = 18,
 }
 
 impl Refusal {

@@ -1,6 +1,6 @@
-//! Seeded random tables, orders and damaged states, for comparing interpreters.
+//! Seeded random tables, lists, orders and damaged states, for comparing interpreters.
 //!
-//! The same seed always gives the same tables, orders and states.
+//! The same seed always gives the same tables, lists, orders and states.
 
 mod author;
 mod codes;
@@ -8,6 +8,7 @@ mod context;
 mod damage;
 mod faults;
 mod limits;
+mod lists;
 mod orders;
 mod rng;
 mod strain;
@@ -15,6 +16,7 @@ mod tables;
 
 pub use damage::{damage_names, damage_state, damage_state_by};
 pub use limits::limit_table;
+pub use lists::{list_of, room_of};
 pub use orders::{order, order_bytes, random_order, OrderKind};
 pub use rng::Rng;
 pub use strain::{limit_cases, strain_state, LimitCase};

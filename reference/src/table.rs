@@ -266,7 +266,7 @@ fn read_single(bytes: &[u8], scope: Scope) -> Result<(Single, usize), Refusal> {
 }
 
 /// How many operand bytes follow a command byte; `None` above 10.
-fn operand_bytes(code: u8) -> Option<usize> {
+pub(crate) fn operand_bytes(code: u8) -> Option<usize> {
     match code {
         0x00 | 0x01 => Some(0),
         0x02..=0x04 | 0x06 | 0x09..=0x0B | 0x0D..=0x10 => Some(1),

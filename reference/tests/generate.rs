@@ -4,8 +4,8 @@ use reference::bytes::{decode, encode};
 use reference::calls::run;
 use reference::fit::is_fit;
 use reference::generate::{
-    damage_names, damage_state, damage_state_by, fault_table, limit_table, order, program_table,
-    random_order, random_table, strain_state, OrderKind, Rng,
+    damage_names, damage_state, damage_state_by, fault_table, limit_table, list_of, order,
+    program_table, random_order, random_table, strain_state, OrderKind, Rng,
 };
 use reference::table::{count, Table};
 
@@ -17,7 +17,8 @@ fn the_same_seed_gives_the_same() {
             let order = random_order(&mut rng, &table, 1_000);
             let mut state = reference::bytes::start(&table).1;
             let damage = damage_state(&mut state, &mut rng);
-            (table, order, state, damage)
+            let list = list_of(&mut rng);
+            (table, order, state, damage, list)
         };
         assert_eq!(made(Rng::new(seed)), made(Rng::new(seed)));
     }
@@ -76,6 +77,22 @@ fn each_number_of_a_table_is_met() {
         met[usize::from(number)] += 1;
     }
     assert!(met.iter().all(|&times| times > 5), "{met:?}");
+}
+
+/// No list is answered with 4.
+#[test]
+fn each_number_of_a_list_is_met() {
+    let mut rng = Rng::new(7);
+    let mut met = [0; 13];
+    let mut buffer = [0; 2_048];
+    for _ in 0..4_000 {
+        let (number, _) = reference::build(&list_of(&mut rng), &mut buffer);
+        met[usize::from(number)] += 1;
+    }
+    assert!(met[0] > 4_000 / 3, "{met:?}");
+    assert_eq!(met[4], 0);
+    let mut others = met.iter().enumerate().filter(|(number, _)| *number != 4);
+    assert!(others.all(|(_, &times)| times > 5), "{met:?}");
 }
 
 #[test]

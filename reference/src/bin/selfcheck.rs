@@ -1,4 +1,5 @@
-//! Runs many random tables to the end and checks what must hold of every run.
+//! Runs many random tables to the end and checks what must hold of every run, and builds a list
+//! of commands for each.
 //!
 //! Arguments: the number of tables (20,000) and the seed (1).
 
@@ -8,11 +9,11 @@ use reference::answer::{accepted, number};
 use reference::bytes::{self, decode, encode};
 use reference::fit::{broken_clauses, is_fit};
 use reference::generate::{
-    damage_state, limit_cases, order, random_table, strain_state, OrderKind, Rng,
+    damage_state, limit_cases, list_of, order, random_table, room_of, strain_state, OrderKind, Rng,
 };
 use reference::state::{Registration, State};
 use reference::table::{Command, Table};
-use reference::{calls, rules};
+use reference::{build, calls, list, rules};
 
 /// Orders longer than this are cut.
 const MOST: usize = 70_000;
@@ -28,6 +29,7 @@ fn main() {
     for index in 0..tables {
         let mut rng = Rng::new(seed.wrapping_mul(1_000_003).wrapping_add(index));
         check_table(&mut rng, &mut tally);
+        check_list(&mut rng, &mut tally);
     }
     check_limit_cases(&mut tally);
     tally.print(tables, seed);
@@ -37,6 +39,7 @@ fn main() {
 #[derive(Default)]
 struct Tally {
     tables: BTreeMap<u8, u64>,
+    lists: BTreeMap<u8, u64>,
     run_answers: BTreeMap<u8, u64>,
     state_answers: BTreeMap<u8, u64>,
     damages: BTreeMap<&'static str, [u64; 2]>,
@@ -49,6 +52,7 @@ impl Tally {
     fn print(&self, tables: u64, seed: u64) {
         println!("{tables} tables from seed {seed}");
         println!("table answers (0 is accepted): {:?}", self.tables);
+        println!("list answers (0 is accepted): {:?}", self.lists);
         println!("runs: {:?}", self.runs);
         println!("answers in runs: {:?}", self.run_answers);
         println!("commands in runs, [steps, faults, refusals]:");
@@ -63,7 +67,7 @@ impl Tally {
         for (name, counts) in &self.damages {
             println!("  {name}: {counts:?}");
         }
-        for number in 1..=17u8 {
+        for number in 1..=18u8 {
             println!("number {number}: {}", self.met(number));
         }
         for fault in 1..=7u8 {
@@ -72,10 +76,15 @@ impl Tally {
     }
 
     fn met(&self, number: u8) -> u64 {
-        [&self.tables, &self.run_answers, &self.state_answers]
-            .iter()
-            .filter_map(|counts| counts.get(&number))
-            .sum()
+        [
+            &self.tables,
+            &self.lists,
+            &self.run_answers,
+            &self.state_answers,
+        ]
+        .iter()
+        .filter_map(|counts| counts.get(&number))
+        .sum()
     }
 }
 
@@ -111,6 +120,45 @@ fn check_refused(table: &[u8], number: u8, start: &State) {
     assert_eq!(calls::registrations(table, &state), (number, [[0; 16]; 64]));
     assert_eq!(bytes::start(table), (number, encode(&State::default())));
     assert_eq!(bytes::ready(table, &[]), (number, 0));
+}
+
+/// A list that is accepted given room is refused with 18 in less, and comes back from its table.
+fn check_list(rng: &mut Rng, tally: &mut Tally) {
+    let entries = list_of(rng);
+    let mut table = vec![0; 1 + 5 * entries.len()];
+    let (number, length) = build(&entries, &mut table);
+    table.truncate(length);
+    assert_eq!(number == 0, length > 0);
+    assert_ne!(number, 4, "a list has only whole commands");
+    let room = room_of(rng, length);
+    let mut lent = vec![0xA5; room];
+    let answer = build(&entries, &mut lent);
+    bump(&mut tally.lists, answer.0);
+    if room < length {
+        assert_eq!(answer, (18, 0));
+    } else {
+        assert_eq!(answer, (number, length));
+    }
+    assert_eq!(lent[..answer.1], table[..answer.1]);
+    assert!(lent[answer.1..].iter().all(|&byte| byte == 0xA5));
+    if number == 0 {
+        check_listing(&entries, &table);
+    }
+}
+
+/// The commands of a built table are the list, and building them gives the table.
+fn check_listing(entries: &[[u8; 5]], table: &[u8]) {
+    assert!(Table::read(table).is_ok());
+    let mut listed = vec![[0xA5; 5]; entries.len() + 1];
+    assert_eq!(list(table, &mut listed), (0, entries.len()));
+    assert_eq!(listed.pop(), Some([0xA5; 5]));
+    assert!(listed
+        .iter()
+        .zip(entries)
+        .all(|(new, old)| new[0] == old[0]));
+    let mut again = vec![0; table.len()];
+    assert_eq!(build(&listed, &mut again), (0, table.len()));
+    assert_eq!(again, table);
 }
 
 fn check_run(rng: &mut Rng, bytes: &[u8], table: &Table, tally: &mut Tally) {
