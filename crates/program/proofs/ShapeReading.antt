@@ -4,11 +4,11 @@ use native.Mathlib.Omega.{arith}
 use mathlib.Core.Path.{_≡_, refl, sym, ap, _∙_}
 use mathlib.Core.List.{List, [], _∷_}
 use mathlib.Core.Bool.{Bool, true, false, cond}
-use lib.ListN.{length, getD, drop}
+use lib.ListN.{length, getD, take, drop}
 use lib.Seq.{drop-cons}
 use lib.Dec.{leb, ltb}
 use borrow.Author.Tests.{leb-false, ltb-false}
-use Rattle.program.specs.Command.{Operand, inside, rows, rowAt, opcode, operandsOf, commandOf, rowOf, width}
+use Rattle.program.specs.Command.{Operand, inside, rows, rowAt, widthAt, opcode, operandsOf, commandOf, rowOf, width}
 use Rattle.program.specs.Reading.{allInside, read}
 use Rattle.program.specs.declared.command.Command.{Command}
 use Rattle.program.specs.declared.reading.Reading.the-variants.{Whole, Unknown, Cut, Outside}
@@ -23,7 +23,7 @@ pub record Known (s : List ℕ) (c : Command) (size : ℕ) : Type 0 where
   pub ranged : Ranged c
 
 -- The operands as they stand in the bytes from the i-th on, one for each kind.
-abbrev firsts : List Operand → List ℕ → ℕ → List ℕ
+abbrev pub firsts : List Operand → List ℕ → ℕ → List ℕ
 firsts [] s i = []
 firsts (kind ∷ kinds) s i = getD s i 0 ∷ firsts kinds s (suc i)
 
@@ -34,6 +34,22 @@ firsts-inside (kind ∷ kinds) s i h e =
     let f = and-true (inside kind (getD s i 0)) _ (rw (drop-cons s i 0 (omega arith)) at e) in
     and-intro _ _ (f .0) (firsts-inside kinds s (suc i) (omega arith) (f .1))
 
+-- They are the first bytes.
+pub firsts-take : (kinds : List Operand) (s : List ℕ) (i : ℕ) → i + length kinds ≤ length s → firsts kinds s i ≡ take (length kinds) (drop i s)
+firsts-take [] s i h = refl
+firsts-take (kind ∷ kinds) s i h = rw (drop-cons s i 0 (omega arith), firsts-take kinds s (suc i) (omega arith))
+
+-- A fact of each command byte.
+pub each-op : (P : ℕ → Type 0) → P 0 → P 1 → P 2 → P 3 → P 4 → P 5 → P 6 → P 7 → P 8 → P 9 → P 10 → P 11 → P 12 → P 13 → P 14 → P 15 → P 16
+    → (op : ℕ) → op < 17 → P op
+each-op P p0 p1 p2 p3 p4 p5 p6 p7 p8 p9 p10 p11 p12 p13 p14 p15 p16 op =
+    let Q : ℕ → Type 0 = λ x. x < 17 → P x in
+    each-from Q 0 (λ h. p0) (each-from Q 1 (λ h. p1) (each-from Q 2 (λ h. p2) (each-from Q 3 (λ h. p3) (each-from Q 4 (λ h. p4) (each-from Q 5 (λ h. p5)
+    (each-from Q 6 (λ h. p6) (each-from Q 7 (λ h. p7) (each-from Q 8 (λ h. p8) (each-from Q 9 (λ h. p9) (each-from Q 10 (λ h. p10) (each-from Q 11 (λ h. p11)
+    (each-from Q 12 (λ h. p12) (each-from Q 13 (λ h. p13) (each-from Q 14 (λ h. p14) (each-from Q 15 (λ h. p15) (each-from Q 16 (λ h. p16)
+    (λ n far h. absurd (let y : ⊥ = omega arith in y))))))))))))))))))
+    op (omega arith)
+
 -- The command of a byte has this byte, and the operands that were read.
 Kept : List ℕ → ℕ → Type 0
 Kept s op =
@@ -42,26 +58,11 @@ Kept s op =
 
 kept : (s : List ℕ) (op : ℕ) → Kept s op
 unfolding Kept rows rowAt commandOf
-kept s op =
-    each-from (Kept s) 0 (λ lt e. (refl, e))
-    (each-from (Kept s) 1 (λ lt e. (refl, e))
-    (each-from (Kept s) 2 (λ lt e. (refl, e))
-    (each-from (Kept s) 3 (λ lt e. (refl, e))
-    (each-from (Kept s) 4 (λ lt e. (refl, e))
-    (each-from (Kept s) 5 (λ lt e. (refl, e))
-    (each-from (Kept s) 6 (λ lt e. (refl, e))
-    (each-from (Kept s) 7 (λ lt e. (refl, e))
-    (each-from (Kept s) 8 (λ lt e. (refl, e))
-    (each-from (Kept s) 9 (λ lt e. (refl, e))
-    (each-from (Kept s) 10 (λ lt e. (refl, e))
-    (each-from (Kept s) 11 (λ lt e. (refl, e))
-    (each-from (Kept s) 12 (λ lt e. (refl, e))
-    (each-from (Kept s) 13 (λ lt e. (refl, e))
-    (each-from (Kept s) 14 (λ lt e. (refl, e))
-    (each-from (Kept s) 15 (λ lt e. (refl, e))
-    (each-from (Kept s) 16 (λ lt e. (refl, e))
-    (λ n far lt e. absurd (let y : ⊥ = omega arith in y))))))))))))))))))
-    op (omega arith)
+kept s op lt =
+    each-op (λ (x : ℕ). allInside (rowAt x .operands) (firsts (rowAt x .operands) s 0) ≡ true → (opcode (commandOf x s) ≡ x) × (allInside (rowAt x .operands) (operandsOf (commandOf x s)) ≡ true))
+    (λ e. (refl, e)) (λ e. (refl, e)) (λ e. (refl, e)) (λ e. (refl, e)) (λ e. (refl, e)) (λ e. (refl, e)) (λ e. (refl, e)) (λ e. (refl, e)) (λ e. (refl, e))
+    (λ e. (refl, e)) (λ e. (refl, e)) (λ e. (refl, e)) (λ e. (refl, e)) (λ e. (refl, e)) (λ e. (refl, e)) (λ e. (refl, e)) (λ e. (refl, e))
+    op lt
 
 -- The tests of a reading that gave a command.
 record Tests (a b e : Bool) (c₀ c : Command) (w₀ size : ℕ) : Type 0 where
@@ -76,6 +77,19 @@ tests true b e c₀ c w₀ size h = apart (cc)
 tests false true e c₀ c w₀ size h = apart (cc)
 tests false false false c₀ c w₀ size h = apart (cc)
 tests false false true c₀ c w₀ size h = record { known = refl; whole = refl; good = refl; same = cc; long = cc }
+
+-- A whole command that was read is that of its byte and of what follows, and as wide as its row says.
+pub record ReadAs (op : ℕ) (s : List ℕ) (c : Command) (size : ℕ) : Type 0 where
+  pub listed : op < 17
+  pub same : commandOf op s ≡ c
+  pub wide : widthAt op ≡ size
+
+pub read-as : (op : ℕ) (s : List ℕ) {c : Command} {size : ℕ} → read (op ∷ s) ≡ Whole c size → ReadAs op s c size
+unfolding rows read widthAt
+read-as op s {c} {size} h =
+    let kinds = rowAt op .operands in
+    let f = tests (leb (length rows) op) (ltb (length s) (length kinds)) (allInside kinds s) (commandOf op s) c (length kinds + 1) size h in
+    record { listed = leb-false 17 op (f .known); same = f .same; wide = f .long }
 
 -- A whole command that was read: its bytes are there and its operands are inside their ranges.
 pub known : (s : List ℕ) {c : Command} {size : ℕ} → read s ≡ Whole c size → Known s c size

@@ -1,16 +1,16 @@
 -- Numbers 9 to 12 by saturated counts, and the answers that they lead to.
 use Prim.Native.Nat.{ℕ, _+_, _≤_, _<_}
 use mathlib.Core.Path.{_≡_, refl, sym, _∙_}
-use mathlib.Core.List.{List}
-use mathlib.Core.Bool.{Bool, true, false, cond}
+use mathlib.Core.List.{List, _∷_}
+use mathlib.Core.Bool.{Bool, true, false, cond, _&&_}
 use native.Mathlib.Omega.{arith}
 use native.Mathlib.Numerals.{add-one}
 use native.Mathlib.Decide.{decLe}
-use lib.ListN.{getD}
-use lib.Dec.{eqb, ltb, leb·suc-suc}
-use borrow.Author.Tests.{ne-eqb, lt-ltb, le-ltb, ltb-false, eqb-true}
+use lib.ListN.{length, getD}
+use lib.Dec.{eqb, ltb, leb, leb·suc-suc}
+use borrow.Author.Tests.{le-leb, lt-leb, ne-eqb, lt-ltb, le-ltb, ltb-false, eqb-true}
 use Rattle.program.specs.Bodies.{programOf}
-use Rattle.program.specs.Scan.{scan, layoutOf}
+use Rattle.program.specs.Scan.{fitsLength, fitsBodies, scan, layoutOf}
 use Rattle.program.specs.Inner.Scanned.{refusedBy, scannedOf}
 use Rattle.program.specs.Count.{tally, ownActivities, workOf, activitiesOf, clocksOf, accumulatorsOf}
 use Rattle.program.specs.Inner.Coding.{weight}
@@ -73,6 +73,26 @@ within r h = by (ltb 63 (getD r 1 0)) (ltb 16 (getD r 2 0)) (ltb 16 (getD r 3 0)
     by false false true w p q s z g = absurd (let y : ⊥ = omega arith in y)
     by false false false true p q s z g = absurd (let y : ⊥ = omega arith in y)
     by false false false false p q s z g = record { activities-few = ltb-false _ _ p; clocks-few = ltb-false _ _ q; accumulators-few = ltb-false _ _ s; work-few = ltb-false _ _ z }
+
+-- "1. The table has fewer than 2 or more than 2,048 bytes."
+pub too-long : (limit : ℕ) (t : List ℕ) → 2048 < length t → numberOf limit t ≡ 1
+unfolding numberOf scan fitsLength
+too-long limit t h = let low : 2 ≤ length t = omega arith in rw (le-leb 2 (length t) low, lt-leb (length t) 2048 h)
+
+-- "2. Byte 0 is 0 or above 16.": every number above 16 is answered alike.
+pub too-many : (limit n m : ℕ) (s : List ℕ) → 16 < n → 16 < m → numberOf limit (n ∷ s) ≡ numberOf limit (m ∷ s)
+unfolding numberOf scan fitsLength fitsBodies
+too-many limit n m s h k = one n h ∙ sym (one m k)
+  where
+    none : (x : ℕ) → 16 < x → leb 1 x && leb x 16 ≡ false
+    none x h = let low : 1 ≤ x = omega arith in rw (le-leb 1 x low, lt-leb x 16 h)
+
+    by : (fits : Bool) (m : ℕ) → cond (eqb (cond fits 2 1) 0) m (cond fits 2 1) ≡ cond fits 2 1
+    by true m = refl
+    by false m = refl
+
+    one : (x : ℕ) → 16 < x → numberOf limit (x ∷ s) ≡ cond (fitsLength (0 ∷ s)) 2 1
+    one x h = rw (none x h) (by (fitsLength (0 ∷ s)) (overCount limit (programOf (x ∷ s))))
 
 module _ (t : List ℕ) where
   -- WHAT THE SCAN ANSWERED

@@ -1,21 +1,16 @@
 -- Reading 2,049 bytes of a JOB is enough: a longer one is turned down with number 1 all the same.
-use Prim.Native.Nat.{ℕ, _<_, _≤_}
+use Prim.Native.Nat.{ℕ, _<_}
 use mathlib.Core.Bool.{Bool, true, false}
 use mathlib.Core.List.{List}
 use mathlib.Core.Path.{_≡_, refl, ap}
 use native.Mathlib.Omega.{arith}
-use borrow.Author.Tests.{leb-true, leb-false, le-leb, lt-leb}
+use borrow.Author.Tests.{leb-true, leb-false}
 use lib.Dec.{leb}
 use lib.ListN.{length, take}
 use lib.Seq.{take-all, length-take-le}
-use Rattle.program.specs.Scan.{fitsLength, scan}
 use Rattle.program.specs.Table.{workLimit, numberOf}
+use Rattle.program.proofs.TableLaws.{too-long}
 use Rattle.walk.specs.Walked.{walked}
-
--- "1. The table has fewer than 2 or more than 2,048 bytes."
-too-long : (t : List ℕ) → 2048 < length t → numberOf workLimit t ≡ 1
-unfolding numberOf scan fitsLength
-too-long t h = let low : 2 ≤ length t = omega arith in rw (le-leb 2 (length t) low, lt-leb (length t) 2048 h)
 
 -- Two tables of number 1 print the same.
 same-refusal : (t u order : List ℕ) → numberOf workLimit t ≡ 1 → numberOf workLimit u ≡ 1 → walked t order ≡ walked u order
@@ -30,4 +25,4 @@ enough t order = go (leb (length t) 2049) refl
     go false e =
         let long : 2049 < length t = leb-false (length t) 2049 e in
         let kept : length (take 2049 t) ≡ 2049 = length-take-le 2049 t (omega arith) in
-        same-refusal (take 2049 t) t order (too-long (take 2049 t) (omega arith)) (too-long t (omega arith))
+        same-refusal (take 2049 t) t order (too-long workLimit (take 2049 t) (omega arith)) (too-long workLimit t (omega arith))

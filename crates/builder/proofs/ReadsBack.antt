@@ -1,0 +1,57 @@
+-- Reading the bytes of a list yields the list.
+use Prim.Native.Nat.{ℕ, zero, suc, _+_, _<_}
+use native.Mathlib.Omega.{arith}
+use mathlib.Core.List.{List, [], _∷_, _++_, map}
+use mathlib.Core.Path.{_≡_, refl, sym, ap, _∙_}
+use lib.ListN.{length, getD, take, drop}
+use lib.Seq.{drop-at}
+use Rattle.program.specs.Command.{rows, rowAt, widthAt, width, commandOf}
+use Rattle.program.specs.Reading.{read, commandsOf}
+use Rattle.program.specs.Scan.{scan}
+use Rattle.program.specs.declared.command.Command.{Command}
+use Rattle.program.specs.declared.reading.Reading.the-variants.{Whole}
+use Rattle.program.proofs.Basic.{apart}
+use Rattle.program.proofs.ShapeReading.{each-op, read-as}
+use Rattle.program.proofs.ShapeListed.{Listed, over, next, passes}
+use Rattle.builder.specs.Build.{commandIn, bytesIn, bytesOf, listBytes}
+use Rattle.builder.proofs.Entries.{Five, Entry, bytes, five-bytes, bytes-split, bytes-long}
+
+-- A command looks only at the operands that its row has.
+looks : (x y z w : ℕ) (rest : List ℕ) (op : ℕ) → op < 17
+    → commandOf op (take (length (rowAt op .operands)) (x ∷ y ∷ z ∷ w ∷ []) ++ rest) ≡ commandOf op (x ∷ y ∷ z ∷ w ∷ [])
+unfolding rows rowAt commandOf
+looks x y z w rest op =
+    each-op (λ (k : ℕ). commandOf k (take (length (rowAt k .operands)) (x ∷ y ∷ z ∷ w ∷ []) ++ rest) ≡ commandOf k (x ∷ y ∷ z ∷ w ∷ []))
+    refl refl refl refl refl refl refl refl refl refl refl refl refl refl refl refl refl op
+
+-- The command that is read from an entry's bytes is the entry's, and as wide as these bytes.
+entry-read : {l : List ℕ} {c : Command} {size : ℕ} → Entry l → (rest : List ℕ) → read (bytesIn l ++ rest) ≡ Whole c size → (c ≡ commandIn l) × (length (bytesIn l) ≡ size)
+unfolding commandIn
+entry-read (bytes op x y z w) rest r =
+    let a = read-as op (take (length (rowAt op .operands)) (x ∷ y ∷ z ∷ w ∷ []) ++ rest) (rw bytes-split at r) in
+    (sym (a .same) ∙ looks x y z w rest op (a .listed), bytes-long (op ∷ x ∷ y ∷ z ∷ w ∷ []) refl ∙ a .wide)
+
+-- Nothing is read where there are no bytes, and an entry makes some.
+none-read : {s : List ℕ} {c : Command} {size : ℕ} {A : Type 0} → s ≡ [] → read s ≡ Whole c size → A
+unfolding read
+none-read e r = apart (let z = rw e at r in cc)
+
+some-bytes : {l : List ℕ} {A : Type 0} (rest : List ℕ) → Entry l → [] ≡ bytesIn l ++ rest → A
+some-bytes rest (bytes op x y z w) e = apart (let z = rw bytes-split at e in cc)
+
+-- The commands that are listed in the bytes of entries are those of the entries.
+listed-entries : {n i left : ℕ} (entries : List (List ℕ)) {s : List ℕ} {cs : List Command} → Five entries → s ≡ bytesOf entries → Listed n i left s cs → cs ≡ map commandIn entries
+unfolding bytesOf
+listed-entries [] five e (over h) = refl
+listed-entries [] five e (next inside own fits r) = none-read e own
+listed-entries (l ∷ entries) five e (over h) = some-bytes (bytesOf entries) (five-bytes l (five 0 (omega arith))) e
+listed-entries (l ∷ entries) five e (next {s = s} {c = c} {cs = cs} inside own fits r) =
+    let a = entry-read (five-bytes l (five 0 (omega arith))) (bytesOf entries) (rw e at own) in
+    let rest : drop (width c) s ≡ bytesOf entries = rw e (drop-at (bytesIn l) (bytesOf entries) (width c) (a .1)) in
+    let later : cs ≡ map commandIn entries = listed-entries entries (λ i h. five (suc i) (omega arith)) rest r in
+    rw (a .0, later)
+
+-- "reading its bytes yields the list"
+pub reads-back : (entries : List (List ℕ)) → Five entries → scan (listBytes entries) ≡ 0 → commandsOf (listBytes entries) ≡ map commandIn entries
+unfolding listBytes
+reads-back entries five e = listed-entries entries five refl (passes (listBytes entries) e .listed)

@@ -1,0 +1,22 @@
+-- The bytes are those of the definition, one by one.
+use mathlib.Core.List.{List, _∷_}
+use mathlib.Core.Path.{_≡_, ap}
+use lib.ListN.{getD}
+use borrow.Author.Needs.{needs}
+use Rattle.builder.specs.Build.{entryOf}
+use Rattle.builder.proofs.entry.entry_of.Statement.{statement}
+use Rattle.builder.proofs.entry.entry_of.Tie as tie
+use Rattle.builder.proofs.entry.entry_of.Reads as reads
+use Rattle.builder.proofs.entry.entry_of.Lts as lts
+use Rattle.program.proofs.command.opcode.Reads as opcode-reads
+use Rattle.program.proofs.command.operands.Reads as operands-reads
+
+returns : tie.Need-returns
+unfolding entryOf
+returns c = rw (c .before .opcode .ensures .0, c .operands .ensures)
+
+pub entry-of-spec : {M : Type 1} → statement M
+entry-of-spec =
+    tie.close
+    (tie.spec (λ opcode-requires κs. search needs) (λ operands-requires κs. search needs) (λ cast-t5. search needs) (λ array-read-t8. search needs)
+    (λ array-read-t11. search needs) (λ array-read-t14. search needs) (λ array-read-t17. search needs) returns)
