@@ -5,3 +5,4 @@ pub mod ReadsBack
 pub mod BuildsBack
 pub mod Walking
 pub mod Answers
+pub mod Cases

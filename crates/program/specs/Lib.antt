@@ -6,5 +6,7 @@ pub mod Scan
 pub mod Count
 pub mod Table
 pub mod Places
+-- What cases are compared with
+pub mod Same
 -- What the code promises itself on the way
 pub mod Inner

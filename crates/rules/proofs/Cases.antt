@@ -7,6 +7,7 @@ use Rattle.program.specs.Bodies.{firstBody, afterEnd, locate, bodiesOf, program
 use Rattle.program.specs.Scan.{nameFits, atomFits, placing, leftAfter, bodyAfter, verdict, fitsLength, fitsBodies, scan}
 use Rattle.program.specs.Count.{sumOver, tallyTo, tally, workOf, activitiesOf, clocksOf, accumulatorsOf}
 use Rattle.program.specs.Table.{overCount, numberOf}
+use Rattle.program.specs.Same.{sameList, sameLists}
 use Rattle.rules.specs.Search.{someBelow, allBelow, countBelow, bitsBelow, listFrom, chain}
 use Rattle.rules.specs.Clocks.{holdsSome, isBehind, behind, quiescent}
 use Rattle.rules.specs.Tree.{rest, here, nextOffset, finishes, inOwnFinish, inFinishBody, descends, inside}
@@ -18,11 +19,11 @@ use Rattle.rules.specs.Steps.{at, fault, waits, effect, refusal, exceeds
 use Rattle.rules.specs.Runs.{runFrom, answersFrom, run, answers, taken, someFault, finished}
 use Rattle.rules.specs.CasesStates.{withActs, withAccs, withCounts, change, nest, nested, pair, paired, crowd, crowded, deep, deepest, atom, standing, breaks, allBreak, broken, answersSo, allSo, reader, reading, handMade, rowsBegin, shows, allShow, renamed, sheets}
 use Rattle.rules.specs.CasesValues.{beginsWith, leaves, allLeave, valued}
-use Rattle.rules.specs.Cases.{sameList, accepts, holdsFor, allHold, marked, answersBy, stateBy, answersAs, allAnswer, ownTables, own, linesFrom, sameLines, printed, walkPrints}
+use Rattle.rules.specs.Cases.{accepts, holdsFor, allHold, marked, answersBy, stateBy, answersAs, allAnswer, ownTables, own, linesFrom, printed, walkPrints}
 
 -- To name this on an `unfolding` line is to open the rules and the cases, for computing with them.
 unfoldable pub opened : Bool
-unfolding rows rowAt commandOf rowOf width names named times held isEnd usesCell read readingsAfter readings wholes commandsOf firstBody afterEnd locate bodiesOf programOf from isPlace nameFits atomFits placing leftAfter bodyAfter verdict fitsLength fitsBodies scan sumOver tallyTo tally workOf activitiesOf clocksOf accumulatorsOf overCount numberOf someBelow allBelow countBelow bitsBelow listFrom chain holdsSome isBehind behind quiescent rest here nextOffset finishes inOwnFinish inFinishBody descends inside lendsUnheld lendsQuiesced asyncFault readFault faultFor behindOf unendedBelow unendedInside waitsFor waitsAt past pushed again popped endOf nextOf repeatOf lent child cellAfter touch touchAll effectOf withStores applied isNoActivity runBy isPlaced isBottom isStacked frameFits stackFits bodyFits barrierFits holdFits namesFit spawnerFits activityFits countsFit activitiesFit accumulatorsFit wellFormed at fault waits effect refusal exceeds advance unfit startWith start stepWith step canStep ready registrationOn sheetOf registrationsNumber registrations runFrom answersFrom run answers taken someFault finished sameList accepts holdsFor allHold marked answersBy stateBy answersAs allAnswer ownTables own beginsWith leaves allLeave valued withActs withAccs withCounts change nest nested pair paired crowd crowded deep deepest atom standing breaks allBreak broken answersSo allSo reader reading handMade rowsBegin shows allShow renamed sheets linesFrom sameLines printed walkPrints
+unfolding rows rowAt commandOf rowOf width names named times held isEnd usesCell read readingsAfter readings wholes commandsOf firstBody afterEnd locate bodiesOf programOf from isPlace nameFits atomFits placing leftAfter bodyAfter verdict fitsLength fitsBodies scan sumOver tallyTo tally workOf activitiesOf clocksOf accumulatorsOf overCount numberOf someBelow allBelow countBelow bitsBelow listFrom chain holdsSome isBehind behind quiescent rest here nextOffset finishes inOwnFinish inFinishBody descends inside lendsUnheld lendsQuiesced asyncFault readFault faultFor behindOf unendedBelow unendedInside waitsFor waitsAt past pushed again popped endOf nextOf repeatOf lent child cellAfter touch touchAll effectOf withStores applied isNoActivity runBy isPlaced isBottom isStacked frameFits stackFits bodyFits barrierFits holdFits namesFit spawnerFits activityFits countsFit activitiesFit accumulatorsFit wellFormed at fault waits effect refusal exceeds advance unfit startWith start stepWith step canStep ready registrationOn sheetOf registrationsNumber registrations runFrom answersFrom run answers taken someFault finished sameList accepts holdsFor allHold marked answersBy stateBy answersAs allAnswer ownTables own beginsWith leaves allLeave valued withActs withAccs withCounts change nest nested pair paired crowd crowded deep deepest atom standing breaks allBreak broken answersSo allSo reader reading handMade rowsBegin shows allShow renamed sheets linesFrom sameLists printed walkPrints
 opened = true
 
 marked-hold : allHold marked ≡ true

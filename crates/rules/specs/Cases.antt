@@ -5,6 +5,7 @@ use mathlib.Core.Bool.{Bool, true, false, cond, _&&_}
 use lib.Dec.{eqb}
 use Rattle.program.specs.Bodies.{Program, programOf}
 use Rattle.program.specs.Count.{workOf, activitiesOf}
+use Rattle.program.specs.Same.{sameList, sameLists}
 use Rattle.rules.specs.Search.{countBelow}
 use Rattle.rules.specs.State.{answerNumber, ended}
 use Rattle.rules.specs.declared.state.State.{State}
@@ -29,12 +30,6 @@ pub record Case : Type 0 where
 
 abbrev pub turnedDown : List ℕ → ℕ → Case
 turnedDown table number = record { table = table; order = []; expected = record { number = number; work = 0; activities = 0; answers = []; taken = 0; ended = 0; spawned = 0 } }
-
-unfoldable pub sameList : List ℕ → List ℕ → Bool
-sameList [] [] = true
-sameList [] (y ∷ ys) = false
-sameList (x ∷ xs) [] = false
-sameList (x ∷ xs) (y ∷ ys) = let r = sameList xs ys in eqb x y && r
 
 -- What is expected of an accepted table is what the rules give; of another, its number.
 unfoldable pub accepts : Case → Bool
@@ -65,12 +60,6 @@ linesFrom taken (i ∷ order) (a ∷ more) =
     let next = taken + cond (isAccepted a) 1 0 in
     (i ∷ answerNumber a ∷ next ∷ []) ∷ linesFrom next order more
 
-unfoldable pub sameLines : List (List ℕ) → List (List ℕ) → Bool
-sameLines [] [] = true
-sameLines [] (y ∷ ys) = false
-sameLines (x ∷ xs) [] = false
-sameLines (x ∷ xs) (y ∷ ys) = let r = sameLines xs ys in sameList x y && r
-
 -- The walk that document 01 prints, line by line.
 unfoldable pub printed : List (List ℕ)
 printed =
@@ -93,7 +82,7 @@ abbrev pub walkOrder : List ℕ
 walkOrder = 0 ∷ 0 ∷ 0 ∷ 0 ∷ 1 ∷ 0 ∷ 0 ∷ 1 ∷ 1 ∷ 0 ∷ []
 
 unfoldable pub walkPrints : Bool
-walkPrints = sameLines (linesFrom 0 walkOrder (answers base walkTable walkOrder)) printed
+walkPrints = sameLists (linesFrom 0 walkOrder (answers base walkTable walkOrder)) printed
 
 -- MARKED P
 

@@ -8,7 +8,8 @@ use Rattle.rules.specs.declared.state.State.{State}
 use Rattle.rules.specs.Search.{listFrom}
 use Rattle.rules.specs.State.{act, accumulator}
 use Rattle.rules.specs.Steps.{startState}
-use Rattle.rules.specs.Cases.{sameList, stateBy}
+use Rattle.program.specs.Same.{sameList}
+use Rattle.rules.specs.Cases.{stateBy}
 
 -- The spawned activities' hands, the first cells (the others are 0), and the made accumulators' values.
 pub record Valued : Type 0 where
