@@ -16,6 +16,7 @@ use program::table::read_table;
 use rules::answer::Answer;
 use rules::answer::Completion;
 
+mod lists; // lists.rt: tables from lists of commands, and back
 mod sheet; // sheet.rt: the standing sheet as bytes
 
 // What a call answers whose buffers do not serve: the table's number, else 13.
