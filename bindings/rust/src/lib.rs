@@ -1,6 +1,6 @@
 //! The step machine's calls over lent bytes. The state's layout is in docs/STATE-BYTES.md.
 //!
-//! Each call answers the paper's number: 0, 100 plus f for fault f, or 1 to 17. A refused call leaves every lent byte as it
+//! Each call answers the paper's number: 0, 100 plus f for fault f, or 1 to 18. A refused call leaves every lent byte as it
 //! was; only a refused start writes, the state of zeros.
 
 /// The version of the layout, a state's first byte.
@@ -12,7 +12,13 @@ pub type State = [u8; 13776];
 /// The standing sheet: 64 rows of 16 bytes, by activity and clock number.
 pub type Sheet = [u8; 1024];
 
+/// A command of a list: its byte, its operand bytes as they stand in a table, then bytes that it lacks. The k commands of an ATOM
+/// are entries of their own after it.
+pub type Entry = [u8; 5];
+
 mod calls {
+    use super::Entry;
+
     extern "C" {
         pub fn stepmachine_start(table: *const u8, table_bytes: usize, state: *mut u8, state_bytes: usize) -> u8;
         pub fn stepmachine_step(table: *const u8, table_bytes: usize, state: *mut u8, state_bytes: usize, activity: usize) -> u8;
@@ -23,6 +29,10 @@ mod calls {
         pub fn stepmachine_run(
             table: *const u8, table_bytes: usize, order: *const u8, order_bytes: usize, answers: *mut u8, answers_bytes: usize,
             state: *mut u8, state_bytes: usize,
+        ) -> u8;
+        pub fn stepmachine_build(entries: *const Entry, count: usize, table: *mut u8, table_bytes: usize, length: *mut usize) -> u8;
+        pub fn stepmachine_commands(
+            table: *const u8, table_bytes: usize, entries: *mut Entry, count: usize, found: *mut usize,
         ) -> u8;
     }
 }
@@ -61,5 +71,25 @@ pub fn run(table: &[u8], order: &[u8], answers: &mut [u8], state: &mut State) ->
             table.as_ptr(), table.len(), order.as_ptr(), order.len(), answers.as_mut_ptr(), answers.len(), state.as_mut_ptr(),
             state.len(),
         )
+    }
+}
+
+/// The table of a list of commands: its length, or the number for which the table would be refused. Bytes that a command lacks are
+/// not looked at. A buffer shorter than the table gives 18.
+pub fn build(entries: &[Entry], table: &mut [u8]) -> Result<usize, u8> {
+    let mut length = 0;
+    match unsafe { calls::stepmachine_build(entries.as_ptr(), entries.len(), table.as_mut_ptr(), table.len(), &mut length) } {
+        0 => Ok(length),
+        number => Err(number),
+    }
+}
+
+/// The commands of a table, with 0 in the bytes that a command lacks: how many, or the table's number. Fewer entries than commands
+/// give 18.
+pub fn commands(table: &[u8], entries: &mut [Entry]) -> Result<usize, u8> {
+    let mut found = 0;
+    match unsafe { calls::stepmachine_commands(table.as_ptr(), table.len(), entries.as_mut_ptr(), entries.len(), &mut found) } {
+        0 => Ok(found),
+        number => Err(number),
     }
 }
