@@ -7,6 +7,9 @@ const SHEET: usize = 1_024;
 /// Stands in what is lent before a call, to see that a refused call leaves it.
 const MARK: u8 = 0xA5;
 
+/// A command of a list.
+pub type Entry = [u8; 5];
+
 extern "C" {
     fn stepmachine_start(table: *const u8, n: usize, state: *mut u8, m: usize) -> u8;
     fn stepmachine_step(
@@ -40,6 +43,20 @@ extern "C" {
         room: usize,
         state: *mut u8,
         m: usize,
+    ) -> u8;
+    fn stepmachine_build(
+        entries: *const Entry,
+        count: usize,
+        table: *mut u8,
+        n: usize,
+        length: *mut usize,
+    ) -> u8;
+    fn stepmachine_commands(
+        table: *const u8,
+        n: usize,
+        entries: *mut Entry,
+        count: usize,
+        found: *mut usize,
     ) -> u8;
 }
 
@@ -101,6 +118,32 @@ pub fn run(table: &[u8], order: &[u8]) -> (u8, Vec<u8>, Vec<u8>) {
         )
     };
     (number, answers, state)
+}
+
+/// The number and the length of the table that a list makes, which is 0 where the call leaves what was lent.
+pub fn build(entries: &[Entry], table: &mut [u8]) -> (u8, usize) {
+    let (from, count) = (entries.as_ptr(), entries.len());
+    told(|length| unsafe {
+        stepmachine_build(from, count, table.as_mut_ptr(), table.len(), length)
+    })
+}
+
+/// The number and how many commands a table has, 0 where the call leaves what was lent.
+pub fn commands(table: &[u8], entries: &mut [Entry]) -> (u8, usize) {
+    let (to, count) = (entries.as_mut_ptr(), entries.len());
+    told(|found| unsafe { stepmachine_commands(table.as_ptr(), table.len(), to, count, found) })
+}
+
+/// The number of a call and what it tells besides.
+fn told(call: impl FnOnce(&mut usize) -> u8) -> (u8, usize) {
+    let mark = usize::from_le_bytes([MARK; 8]);
+    let mut told = mark;
+    let number = call(&mut told);
+    if number != 0 {
+        assert_eq!(told, mark, "a refused call wrote a length");
+        told = 0;
+    }
+    (number, told)
 }
 
 /// Whether nothing was written into these bytes.

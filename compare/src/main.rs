@@ -5,6 +5,7 @@ mod cases;
 mod cores;
 mod damaged;
 mod features;
+mod lists;
 mod machine;
 mod points;
 mod runs;
@@ -34,6 +35,11 @@ fn main() {
     timed("tables", || {
         whole.add(cores::share(tables, |index, tally| {
             runs::table_agrees(seed, index, tally);
+        }));
+    });
+    timed("lists", || {
+        whole.add(cores::share(tables, |index, tally| {
+            lists::list_agrees(seed, index, tally);
         }));
     });
     let features = features::names();
