@@ -135,6 +135,10 @@ turnedAway entries buffer number = record { entries = entries; buffer = buffer; 
 abbrev refused : List (List ℕ) → ℕ → Build
 refused entries number = turnedAway entries (0xA1 ∷ 0xA2 ∷ 0xA3 ∷ 0xA4 ∷ 0xA5 ∷ 0xA6 ∷ 0xA7 ∷ []) number
 
+-- Work of 65,282 and of each FETCH.
+abbrev working : ℕ → List (List ℕ)
+working fetches = two 0x07 0xFF 0x01 ∷ replicate fetches (one 0x0D 0x0F) ++ (end ∷ two 0x07 0xFE 0x02 ∷ end ∷ end ∷ [])
+
 unfoldable pub built : List Build
 built =
     accepted walkEntries (replicate 12 0xA5) 10 (walkTable ++ (0xA5 ∷ 0xA5 ∷ []))
@@ -165,7 +169,8 @@ built =
     ∷ refused (two 0x07 0x40 0x01 ∷ end ∷ two 0x05 0x02 0x00 ∷ end ∷ end ∷ []) 9
     ∷ refused (two 0x07 0x11 0x01 ∷ end ∷ one 0x02 0x07 ∷ end ∷ []) 10
     ∷ refused (two 0x07 0x11 0x01 ∷ end ∷ two 0x08 0x07 0x02 ∷ end ∷ []) 11
-    ∷ refused (two 0x07 0xFF 0x01 ∷ end ∷ two 0x07 0xFF 0x02 ∷ end ∷ end ∷ []) 12
+    ∷ refused (working 254) 12
+    ∷ turnedAway (working 253) [] 18
     ∷ []
 
 -- The longest table, 2,048 bytes.
@@ -229,5 +234,7 @@ listed =
     ∷ unlisted (0x00 ∷ 0x00 ∷ []) (replicate 3 (alone 0xA5)) 2
     ∷ unlisted (0x01 ∷ 0x11 ∷ []) [] 3
     ∷ unlisted (0x01 ∷ 0x01 ∷ []) (replicate 3 (alone 0xA5)) 4
-    ∷ unlisted (0x01 ∷ 0x00 ∷ 0x00 ∷ []) (replicate 3 (alone 0xA5)) 8
+    ∷ unlisted (0x01 ∷ 0x00 ∷ 0x00 ∷ []) [] 8
+    ∷ unlisted (0x03 ∷ 0x07 ∷ 0xFF ∷ 0x01 ∷ 0x00 ∷ 0x07 ∷ 0xFF ∷ 0x02 ∷ 0x00 ∷ 0x00 ∷ []) (replicate 9 (alone 0xA5)) 12
+    ∷ unlisted (0x03 ∷ 0x07 ∷ 0xFF ∷ 0x01 ∷ 0x00 ∷ 0x07 ∷ 0xFE ∷ 0x02 ∷ 0x00 ∷ 0x00 ∷ []) [] 18
     ∷ []
