@@ -44,18 +44,16 @@ word-bytes x y z w hx hy hz hw =
     let d : v / 16777216 % 256 ≡ w = rw (highest (x + 256 * y + 65536 * z) w (omega arith)) (omega arith) in
     rw (a, b, c, d)
 
--- A command has the byte and the operands that it was read from.
+-- A command has the operands that it was read from.
 Back : List ℕ → ℕ → Type 0
-Back s op = (opcode (commandOf op s) ≡ op) × (take (length (rowAt op .operands)) (padded (operandsOf (commandOf op s))) ≡ firsts (rowAt op .operands) s 0)
+Back s op = take (length (rowAt op .operands)) (padded (operandsOf (commandOf op s))) ≡ firsts (rowAt op .operands) s 0
 
 back : (s : List ℕ) → Bytes s → (op : ℕ) → op < 17 → Back s op
 unfolding Back rows rowAt commandOf
 back s h op =
-    each-op (Back s)
-    (refl, refl) (refl, refl) (refl, refl) (refl, refl) (refl, refl) (refl, refl) (refl, refl) (refl, refl) (refl, refl) (refl, refl) (refl, refl) (refl, refl)
-    (refl, word-bytes (getD s 0 0) (getD s 1 0) (getD s 2 0) (getD s 3 0) (h 0) (h 1) (h 2) (h 3))
-    (refl, refl) (refl, refl) (refl, refl) (refl, refl)
-    op
+    each-op (Back s) refl refl refl refl refl refl refl refl refl refl refl refl
+    (word-bytes (getD s 0 0) (getD s 1 0) (getD s 2 0) (getD s 3 0) (h 0) (h 1) (h 2) (h 3))
+    refl refl refl refl op
 
 -- The bytes that a command's entry makes are those that it was read from.
 entry-bytes : (s : List ℕ) {c : Command} → Bytes s → read s ≡ Whole c (width c) → bytesIn (entryOf c) ≡ take (width c) s
@@ -66,10 +64,9 @@ entry-bytes (op ∷ s) {c} h r =
     let b = back s (λ i. h (suc i)) op (a .listed) in
     let kinds = rowAt op .operands in
     let wide : width c ≡ suc (length kinds) = sym (a .wide) ∙ add-one (length kinds) in
-    let o : opcode c ≡ op = ap opcode (sym (a .same)) ∙ b .0 in
     let l : take (length kinds) (padded (operandsOf c)) ≡ take (length kinds) s
-    = ap (λ (x : Command). take (length kinds) (padded (operandsOf x))) (sym (a .same)) ∙ b .1 ∙ firsts-take kinds s 0 (let i = known (op ∷ s) r .inside in omega arith) in
-    rw (o, bytes-split op (padded (operandsOf c)), l, wide)
+    = ap (λ (x : Command). take (length kinds) (padded (operandsOf x))) (sym (a .same)) ∙ b ∙ firsts-take kinds s 0 (let i = known (op ∷ s) r .inside in omega arith) in
+    rw (a .byte, bytes-split op (padded (operandsOf c)), l, wide)
 
 -- Along the commands of a table: the entries make its bytes, and their ENDs are the bodies that follow.
 record Rebuilt (n i : ℕ) (s : List ℕ) (entries : List (List ℕ)) : Type 0 where

@@ -3,6 +3,7 @@ pub mod Entries
 pub mod Filling
 pub mod ReadsBack
 pub mod BuildsBack
+pub mod Uncut
 pub mod Walking
 pub mod Answers
 pub mod Cases

@@ -5,7 +5,7 @@ use mathlib.Core.List.{List, [], _∷_, _++_, map}
 use mathlib.Core.Path.{_≡_, refl, sym, ap, _∙_}
 use lib.ListN.{length, getD, take, drop}
 use lib.Seq.{drop-at}
-use Rattle.program.specs.Command.{rows, rowAt, widthAt, width, commandOf}
+use Rattle.program.specs.Command.{rows, rowAt, widthAt, opcode, width, commandOf}
 use Rattle.program.specs.Reading.{read, commandsOf}
 use Rattle.program.specs.Scan.{scan}
 use Rattle.program.specs.declared.command.Command.{Command}
@@ -25,11 +25,16 @@ looks x y z w rest op =
     refl refl refl refl refl refl refl refl refl refl refl refl refl refl refl refl refl op
 
 -- The command that is read from an entry's bytes is the entry's, and as wide as these bytes.
-entry-read : {l : List ℕ} {c : Command} {size : ℕ} → Entry l → (rest : List ℕ) → read (bytesIn l ++ rest) ≡ Whole c size → (c ≡ commandIn l) × (length (bytesIn l) ≡ size)
+pub record EntryRead (l : List ℕ) (c : Command) (size : ℕ) : Type 0 where
+  pub same : c ≡ commandIn l
+  pub long : length (bytesIn l) ≡ size
+  pub byte : opcode c ≡ getD l 0 0
+
+pub entry-read : {l : List ℕ} {c : Command} {size : ℕ} → Entry l → (rest : List ℕ) → read (bytesIn l ++ rest) ≡ Whole c size → EntryRead l c size
 unfolding commandIn
 entry-read (bytes op x y z w) rest r =
     let a = read-as op (take (length (rowAt op .operands)) (x ∷ y ∷ z ∷ w ∷ []) ++ rest) (rw bytes-split at r) in
-    (sym (a .same) ∙ looks x y z w rest op (a .listed), bytes-long (op ∷ x ∷ y ∷ z ∷ w ∷ []) refl ∙ a .wide)
+    record { same = sym (a .same) ∙ looks x y z w rest op (a .listed); long = bytes-long (op ∷ x ∷ y ∷ z ∷ w ∷ []) refl ∙ a .wide; byte = a .byte }
 
 -- Nothing is read where there are no bytes, and an entry makes some.
 none-read : {s : List ℕ} {c : Command} {size : ℕ} {A : Type 0} → s ≡ [] → read s ≡ Whole c size → A
@@ -47,9 +52,9 @@ listed-entries [] five e (next inside own fits r) = none-read e own
 listed-entries (l ∷ entries) five e (over h) = some-bytes (bytesOf entries) (five-bytes l (five 0 (omega arith))) e
 listed-entries (l ∷ entries) five e (next {s = s} {c = c} {cs = cs} inside own fits r) =
     let a = entry-read (five-bytes l (five 0 (omega arith))) (bytesOf entries) (rw e at own) in
-    let rest : drop (width c) s ≡ bytesOf entries = rw e (drop-at (bytesIn l) (bytesOf entries) (width c) (a .1)) in
+    let rest : drop (width c) s ≡ bytesOf entries = rw e (drop-at (bytesIn l) (bytesOf entries) (width c) (a .long)) in
     let later : cs ≡ map commandIn entries = listed-entries entries (λ i h. five (suc i) (omega arith)) rest r in
-    rw (a .0, later)
+    rw (a .same, later)
 
 -- "reading its bytes yields the list"
 pub reads-back : (entries : List (List ℕ)) → Five entries → scan (listBytes entries) ≡ 0 → commandsOf (listBytes entries) ≡ map commandIn entries

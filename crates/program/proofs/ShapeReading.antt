@@ -83,13 +83,16 @@ pub record ReadAs (op : ℕ) (s : List ℕ) (c : Command) (size : ℕ) : Type 0 
   pub listed : op < 17
   pub same : commandOf op s ≡ c
   pub wide : widthAt op ≡ size
+  pub byte : opcode c ≡ op
 
 pub read-as : (op : ℕ) (s : List ℕ) {c : Command} {size : ℕ} → read (op ∷ s) ≡ Whole c size → ReadAs op s c size
-unfolding rows read widthAt
+unfolding Kept rows read widthAt
 read-as op s {c} {size} h =
     let kinds = rowAt op .operands in
     let f = tests (leb (length rows) op) (ltb (length s) (length kinds)) (allInside kinds s) (commandOf op s) c (length kinds + 1) size h in
-    record { listed = leb-false 17 op (f .known); same = f .same; wide = f .long }
+    let fits = ltb-false (length s) (length kinds) (f .whole) in
+    let k = kept s op (leb-false 17 op (f .known)) (firsts-inside kinds s 0 (omega arith) (f .good)) in
+    record { listed = leb-false 17 op (f .known); same = f .same; wide = f .long; byte = ap opcode (sym (f .same)) ∙ k .0 }
 
 -- A whole command that was read: its bytes are there and its operands are inside their ranges.
 pub known : (s : List ℕ) {c : Command} {size : ℕ} → read s ≡ Whole c size → Known s c size
