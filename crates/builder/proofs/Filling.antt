@@ -1,20 +1,17 @@
 -- Filling a buffer with the bytes of entries.
 use Prim.Native.Nat.{ℕ, zero, suc, _+_, _-_, _≤_, _<_}
 use native.Mathlib.Omega.{arith}
-use native.Mathlib.Nat.{add-comm, add-sub-cancel-left}
-use native.Mathlib.Numerals.{add-one}
+use native.Mathlib.Nat.{add-sub-cancel-left}
 use native.Mathlib.Decide.{decLe}
 use mathlib.Core.List.{List, [], _∷_, _++_, append-nil, append-assoc}
-use mathlib.Core.Bool.{cond}
 use mathlib.Core.Path.{_≡_, refl, sym, ap, _∙_}
-use lib.ListN.{length, getD, take, drop, set, length-append, length-drop, length-set, drop-of-length-le}
+use lib.ListN.{length, getD, take, drop, set, length-append, length-drop, drop-of-length-le}
 use lib.Seq.{length-take-le, drop-append-le, take-append-add, take-at}
-use lib.Dec.{eqb}
 use borrow.Rule.Slice.PartMut.{putMid}
 use Rattle.program.specs.Command.{widthAt}
 use Rattle.builder.specs.Build.{bytesIn, endsIn, bytesOf, listBytes}
 use Rattle.builder.specs.Filled.{capped, Counted, Filled}
-use Rattle.builder.proofs.Entries.{Five, bytes-long, bytes-next, ends-next}
+use Rattle.builder.proofs.Entries.{bytes-long, bytes-next, ends-next}
 
 -- The bytes of the first i entries are written, `at` with byte 0, and so many ENDs are counted.
 pub record Filling (entries : List (List ℕ)) (out : List ℕ) (at ends i : ℕ) : Type 0 where

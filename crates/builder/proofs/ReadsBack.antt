@@ -1,11 +1,11 @@
 -- Reading the bytes of a list yields the list.
-use Prim.Native.Nat.{ℕ, zero, suc, _+_, _<_}
+use Prim.Native.Nat.{ℕ, suc, _+_, _<_}
 use native.Mathlib.Omega.{arith}
 use mathlib.Core.List.{List, [], _∷_, _++_, map}
-use mathlib.Core.Path.{_≡_, refl, sym, ap, _∙_}
+use mathlib.Core.Path.{_≡_, refl, sym, _∙_}
 use lib.ListN.{length, getD, take, drop}
 use lib.Seq.{drop-at}
-use Rattle.program.specs.Command.{rows, rowAt, widthAt, opcode, width, commandOf}
+use Rattle.program.specs.Command.{rows, rowAt, opcode, width, commandOf}
 use Rattle.program.specs.Reading.{read, commandsOf}
 use Rattle.program.specs.Scan.{scan}
 use Rattle.program.specs.declared.command.Command.{Command}

@@ -1,9 +1,9 @@
 -- The bytes of a list are never cut: its commands are whole, and each END is the end of a body or stands in an ATOM. So number 4 does not come.
-use Prim.Native.Nat.{ℕ, zero, suc, _+_, _≤_, _<_}
+use Prim.Native.Nat.{ℕ, zero, suc, _+_, _≤_}
 use native.Mathlib.Omega.{arith}
 use mathlib.Core.List.{List, [], _∷_, _++_}
 use mathlib.Core.Bool.{Bool, true, false, cond}
-use mathlib.Core.Path.{_≡_, refl, sym, ap, _∙_}
+use mathlib.Core.Path.{_≡_, refl, sym, ap}
 use lib.ListN.{length, getD, take, length-append}
 use lib.Seq.{length-take-le, drop-at}
 use lib.Dec.{leb, ltb, eqb}
@@ -21,7 +21,7 @@ use Rattle.program.specs.declared.reading.Reading.the-variants.{Whole, Unknown,
 use Rattle.program.proofs.Basic.{apart}
 use Rattle.program.proofs.RowLaws.{width-few}
 use Rattle.program.proofs.ReadLaws.{Stopped, ran-out, stopped, readings-whole, readings-stop}
-use Rattle.builder.specs.Build.{commandIn, bytesIn, endsIn, bytesOf, listBytes}
+use Rattle.builder.specs.Build.{bytesIn, endsIn, bytesOf, listBytes}
 use Rattle.builder.proofs.Entries.{Five, Entry, bytes, five-bytes, bytes-split}
 use Rattle.builder.proofs.ReadsBack.{entry-read}
 

@@ -5,7 +5,7 @@ use native.Mathlib.Numerals.{add-one}
 use mathlib.Core.List.{List, [], _∷_}
 use mathlib.Core.Path.{_≡_, refl, sym, ap, _∙_}
 use lib.ListN.{length, getD, drop, length-drop}
-use lib.Seq.{drop-drop, drop-length}
+use lib.Seq.{drop-drop}
 use Rattle.program.specs.Reading.{read, readings, wholes, commandsOf}
 use Rattle.program.specs.Inner.Scanned.{refusalOf}
 use Rattle.program.specs.declared.command.Command.{Command}

@@ -8,9 +8,9 @@ use mathlib.Core.Bool.{true, _&&_}
 use mathlib.Core.Path.{_≡_, refl, sym, ap, _∙_}
 use lib.ListN.{length, getD, take, drop, set, replicate}
 use lib.Dec.{eqb}
-use lib.Seq.{take-suc, take-suc-set, take-all, drop-cons, getD-drop}
+use lib.Seq.{take-suc, take-suc-set, take-all, drop-cons}
 use borrow.Author.Tests.{eqb-true}
-use Rattle.program.proofs.Basic.{Bytes, bytes-drop, bytes-take}
+use Rattle.program.proofs.Basic.{Bytes}
 use Rattle.rules.proofs.Tests.{and-true}
 use Rattle.encoding.specs.Bytes.{bytesOf, numberOf, allZero}
 

@@ -12,7 +12,6 @@ use Rattle.program.specs.Command.{Operand, clockName, accumulatorName, o
 use Rattle.program.specs.Inner.Coding.{kindCode, ranges, withinCode, coded}
 use Rattle.program.specs.Reading.{allInside, read}
 use Rattle.program.specs.declared.command.Command.{Command}
-use Rattle.program.specs.declared.command.Command.the-variants.{Read}
 use Rattle.program.specs.declared.reading.Reading.{Reading}
 use Rattle.program.specs.declared.reading.Reading.the-variants.{Whole, Unknown, Cut, Outside}
 use Rattle.program.proofs.Basic.{Bytes, and-true}

@@ -1,7 +1,7 @@
 // The commands of a table.
 ghost use mathlib.Core.Path.{_≡_};
 ghost use mathlib.Core.List.{[], _∷_};
-ghost use Prim.Native.Nat.{_+_, _<_, _%_, _/_};
+ghost use Prim.Native.Nat.{_<_, _%_, _/_};
 ghost use Rattle.program.specs.Command.{widthAt, rowOf, opcode, operandsOf, width, names, named, times, held, isEnd, usesCell, operandWhere};
 ghost use Rattle.program.specs.Inner.Coding.{isKind, padded};
 use super::rows::column;

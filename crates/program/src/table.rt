@@ -1,7 +1,6 @@
 // A table that is read and counted: numbers 1 to 12.
 ghost use mathlib.Core.Path.{_≡_};
 ghost use Prim.Native.Nat.{_+_};
-ghost use lib.ListN.{getD};
 ghost use Rattle.program.specs.Table.{workLimit, tableOf, refusedWith};
 ghost use Rattle.program.specs.Inner.Counting.{overCounts};
 use super::count::counts;

@@ -1,5 +1,5 @@
 -- The calls: start, step, ready set and standing sheet, with the numbers for which each is turned down, in checking order.
-use Prim.Native.Nat.{ℕ, zero, suc, _+_}
+use Prim.Native.Nat.{ℕ}
 use mathlib.Core.List.{List, [], _∷_}
 use mathlib.Core.Bool.{Bool, true, false, cond, _||_, _&&_, not}
 use lib.ListN.{set, replicate}
@@ -7,8 +7,7 @@ use lib.Dec.{ltb, leb, eqb}
 use Rattle.program.specs.Bodies.{Located, Program, programOf}
 use Rattle.program.specs.Count.{workOf}
 use Rattle.program.specs.Table.{workLimit, numberOf}
-use Rattle.rules.specs.declared.state.Status.{Status}
-use Rattle.rules.specs.declared.state.Status.the-variants.{Running, AtBarrier, Ended, Faulted}
+use Rattle.rules.specs.declared.state.Status.the-variants.{Running, Faulted}
 use Rattle.rules.specs.declared.state.Hold.{Hold}
 use Rattle.rules.specs.declared.state.Activity.{Activity}
 use Rattle.rules.specs.declared.state.State.{State}

@@ -1,14 +1,13 @@
 -- The bytes are made, read and copied; what is turned down leaves the buffer.
 use native.Mathlib.Omega.{arith}
-use mathlib.Core.Path.{_≡_, refl, sym, ap, _∙_}
+use mathlib.Core.Path.{_≡_, sym, ap, _∙_}
 use borrow.Author.Needs.{needs}
-use lib.ListN.{length, take, drop}
 use Rattle.program.specs.Table.{workLimit, numberOf}
 use Rattle.program.specs.declared.table.Table.{Table}
 use Rattle.program.proofs.ShapeLaws.{table-number}
 use Rattle.builder.specs.Build.{listBytes}
 use Rattle.builder.specs.Filled.{Written}
-use Rattle.builder.proofs.Answers.{Builds, unmade, made, written-long, written-inside, written-number, written-bytes, build-refused, build-short, build-done}
+use Rattle.builder.proofs.Answers.{unmade, made, written-long, written-inside, written-number, written-bytes, build-refused, build-short, build-done}
 use Rattle.builder.proofs.build.Statement.{statement}
 use Rattle.builder.proofs.build.Tie as tie
 use Rattle.builder.proofs.build.Reads as reads

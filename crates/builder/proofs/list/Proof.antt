@@ -1,7 +1,7 @@
 -- The table is read, its commands are counted and written; what is turned down leaves the entries.
 use Prim.Native.Nat.{_≤_}
 use native.Mathlib.Omega.{arith}
-use mathlib.Core.Path.{_≡_, refl, sym, ap, _∙_}
+use mathlib.Core.Path.{_≡_, sym, ap, _∙_}
 use borrow.Author.Needs.{needs}
 use lib.ListN.{length}
 use Rattle.program.specs.Table.{workLimit, numberOf}

@@ -1,7 +1,7 @@
 -- The first i bytes are copied, and behind them the buffer is as it was.
 use Prim.Native.Nat.{_≤_, _-_}
 use native.Mathlib.Omega.{arith}
-use mathlib.Core.Path.{_≡_, refl, sym, ap, _∙_}
+use mathlib.Core.Path.{_≡_, refl, ap, _∙_}
 use lib.ListN.{length, getD, set}
 use Rattle.builder.proofs.Copied.{copied, copied-more, copied-long, copied-all}
 use Rattle.builder.proofs.bytes.copy.Statement.{statement}

@@ -1,7 +1,4 @@
 -- The bytes are those of the definition, one by one.
-use mathlib.Core.List.{List, _∷_}
-use mathlib.Core.Path.{_≡_, ap}
-use lib.ListN.{getD}
 use borrow.Author.Needs.{needs}
 use Rattle.builder.specs.Build.{entryOf}
 use Rattle.builder.proofs.entry.entry_of.Statement.{statement}

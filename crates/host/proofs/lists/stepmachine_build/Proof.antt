@@ -1,5 +1,5 @@
 -- The number tells whether the length is written.
-use mathlib.Core.Path.{_≡_, sym, _∙_}
+use mathlib.Core.Path.{sym, _∙_}
 use borrow.Author.Needs.{needs}
 use borrow.Author.Tests.{eq-eqb, ne-eqb}
 use Rattle.host.specs.Lists.{sizeAfter}
