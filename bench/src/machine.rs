@@ -1,5 +1,8 @@
 //! The machine's calls over lent bytes, and its run by single steps by value.
 
+/// A command of a list.
+pub type Entry = [u8; 5];
+
 /// The bytes of a state.
 pub const LENGTH: usize = 13_776;
 
@@ -8,6 +11,8 @@ extern "C" {
     fn stepmachine_run(
         table: *const u8, n: usize, order: *const u8, k: usize, answers: *mut u8, room: usize, state: *mut u8, m: usize,
     ) -> u8;
+    fn stepmachine_build(entries: *const Entry, count: usize, table: *mut u8, n: usize, length: *mut usize) -> u8;
+    fn stepmachine_commands(table: *const u8, n: usize, entries: *mut Entry, count: usize, found: *mut usize) -> u8;
     fn stepmachine_paces(table: *const u8, n: usize, order: *const u8, k: usize, answers: *mut u8, room: usize) -> u8;
 }
 
@@ -31,4 +36,18 @@ pub fn paces(table: &[u8], order: &[u8], answers: &mut [u8]) -> u8 {
     unsafe {
         stepmachine_paces(table.as_ptr(), table.len(), order.as_ptr(), order.len(), answers.as_mut_ptr(), answers.len())
     }
+}
+
+/// The table of a list, and its length.
+pub fn build(entries: &[Entry], table: &mut [u8]) -> (u8, usize) {
+    let mut length = 0;
+    let number = unsafe { stepmachine_build(entries.as_ptr(), entries.len(), table.as_mut_ptr(), table.len(), &mut length) };
+    (number, length)
+}
+
+/// The commands of a table, and how many.
+pub fn commands(table: &[u8], entries: &mut [Entry]) -> (u8, usize) {
+    let mut found = 0;
+    let number = unsafe { stepmachine_commands(table.as_ptr(), table.len(), entries.as_mut_ptr(), entries.len(), &mut found) };
+    (number, found)
 }

@@ -1,6 +1,7 @@
 //! Prints nanoseconds a step of the machine beside the second interpreter, and draws how they grow.
 //! Usage: bench FILE.svg
 mod jobs;
+mod lists;
 mod machine;
 mod measure;
 mod plot;
@@ -49,6 +50,13 @@ fn main() {
     let file = std::env::args().nth(1).expect("the file to draw to");
     println!("nanoseconds a step, medians; machine and reference in turn");
     grown([1, 8, 64].into_iter().flat_map(|n| [(n, SHORT), (n, LONG)]));
+    println!("\nnanoseconds a call on a list or a table of so many bytes");
+    println!("{:>6}  {:<16} {:>10} {:>10} {:>7}", "bytes", "call", "machine", "reference", "ratio");
+    for bytes in [SHORT, LONG] {
+        for (name, pace) in lists::paces(bytes) {
+            println!("{bytes:>6}  {name:<16} {:>10.0} {:>10.0} {:>7.2}", pace.machine, pace.reference, pace.ratio());
+        }
+    }
     println!("\nas the activities grow");
     let activities = grown(ACTIVITIES.into_iter().map(|n| (n, SHORT)));
     println!("\nas the table grows");

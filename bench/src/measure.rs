@@ -5,7 +5,7 @@ use reference::{bytes, calls};
 use std::hint::black_box;
 
 /// How often each is measured; the median counts.
-const REPEATS: usize = 15;
+pub const REPEATS: usize = 15;
 
 /// What is measured.
 #[derive(Clone, Copy, PartialEq)]
@@ -53,7 +53,7 @@ fn now() -> f64 {
 }
 
 /// Nanoseconds a step of some work, and what it made.
-fn timed<T>(steps: usize, work: impl FnOnce() -> T) -> (f64, T) {
+pub fn timed<T>(steps: usize, work: impl FnOnce() -> T) -> (f64, T) {
     let from = now();
     let made = black_box(work());
     ((now() - from) / steps as f64, made)
@@ -123,7 +123,7 @@ fn by_reference(call: Call, job: &Job) -> (f64, Made) {
     }
 }
 
-fn median(mut numbers: Vec<f64>) -> f64 {
+pub fn median(mut numbers: Vec<f64>) -> f64 {
     numbers.sort_by(f64::total_cmp);
     numbers[numbers.len() / 2]
 }
