@@ -1,4 +1,4 @@
-//! Prints nanoseconds a step of the machine beside the second interpreter, and draws how they grow.
+//! Prints nanoseconds a step, and a call on a list, of the machine beside the second interpreter, and draws how steps grow.
 //! Usage: bench FILE.svg
 mod jobs;
 mod lists;

@@ -7,8 +7,8 @@
 #define STATE STEPMACHINE_STATE_BYTES
 
 /* The bytes of the longest table, and the most commands of a table. */
-#define TABLE 2048
-#define LIST 2047
+#define TABLE STEPMACHINE_TABLE_BYTES
+#define LIST STEPMACHINE_TABLE_ENTRIES
 
 /* A list of commands, with 0 for the bytes that a command lacks, and its table. */
 struct pair {

@@ -1,12 +1,12 @@
 /* The step machine's calls over lent bytes. The state's layout is in docs/STATE-BYTES.md.
    Link target/staticlib/libhost.a, which `rt staticlib host` writes, for x86-64.
 
-   Each call answers the paper's number: 0, 100 plus f for fault f, or 1 to 18. The table's number 1 to 12 comes first;
-   a buffer of another length, or bytes that encode no state, give 13. A refused call leaves every lent byte as it was; only a
+   Each call answers the documents' number: 0, 100 plus f for fault f, or 1 to 18. The table's number 1 to 12 comes first;
+   a state or sheet of another length, or bytes that encode no state, give 13. A refused call leaves every lent byte as it was; only a
    refused start writes: the state of zeros, into a buffer of the right length.
 
-   A list of commands is entries of 5 bytes, one after the other: the command byte, its operand bytes as they stand in a table, then bytes
-   that the command lacks. The k commands of an ATOM are entries of their own after it. `count` is entries, not bytes: of an array
+   A list of commands is entries of 5 bytes, one after the other: the command byte, its operand bytes as they stand in a table
+   (PUT's value lowest byte first), then bytes that the command lacks. The k commands of an ATOM are entries of their own after it. `count` is entries, not bytes: of an array
    `uint8_t list[n][STEPMACHINE_ENTRY_BYTES]` hand over `list[0]` and n.
 
    Every pointer is valid for its length and not null. A buffer that a call writes overlaps no other buffer of the call. */
@@ -20,6 +20,9 @@
 #define STEPMACHINE_STATE_BYTES 13776
 #define STEPMACHINE_SHEET_BYTES 1024
 #define STEPMACHINE_ENTRY_BYTES 5
+/* Room for every table, and for the commands of every table. */
+#define STEPMACHINE_TABLE_BYTES 2048
+#define STEPMACHINE_TABLE_ENTRIES 2047
 
 #ifdef __cplusplus
 extern "C" {
@@ -43,8 +46,8 @@ uint8_t stepmachine_registrations(const uint8_t *table, size_t table_bytes, cons
 uint8_t stepmachine_run(const uint8_t *table, size_t table_bytes, const uint8_t *order, size_t order_bytes, uint8_t *answers,
                         size_t answers_bytes, uint8_t *state, size_t state_bytes);
 
-/* The table of a list of commands, and its length. Bytes that a command lacks are not looked at. A list is refused as its table would be;
-   then a buffer shorter than the table gives 18. */
+/* The table of a list of commands, and its length: the table_bytes of later calls. Bytes that a command lacks are not looked at. A list is
+   refused as its table would be; then a buffer shorter than the table gives 18. */
 uint8_t stepmachine_build(const uint8_t *entries, size_t count, uint8_t *table, size_t table_bytes, size_t *length);
 
 /* The commands of a table, with 0 in the bytes that a command lacks, and how many. Fewer entries than commands give 18. */

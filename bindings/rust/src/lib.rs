@@ -1,6 +1,6 @@
 //! The step machine's calls over lent bytes. The state's layout is in docs/STATE-BYTES.md.
 //!
-//! Each call answers the paper's number: 0, 100 plus f for fault f, or 1 to 18. A refused call leaves every lent byte as it
+//! Each call answers the documents' number: 0, 100 plus f for fault f, or 1 to 18. A refused call leaves every lent byte as it
 //! was; only a refused start writes, the state of zeros.
 
 /// The version of the layout, a state's first byte.

@@ -2,20 +2,23 @@
 use Prim.Native.Nat.{ℕ, _+_, _≤_, _<_}
 use native.Mathlib.Omega.{arith}
 use native.Mathlib.Decide.{decLe}
+use mathlib.Core.Bool.{true}
 use mathlib.Core.List.{List, _∷_, _++_, map}
 use mathlib.Core.Path.{_≡_, sym, ap, _∙_}
 use lib.ListN.{length, take, drop, length-take, length-map}
 use lib.Seq.{take-append-seam, take-at}
-use borrow.Author.Tests.{ne-eqb, lt-ltb, le-ltb}
+use lib.Dec.{leb}
+use borrow.Author.Tests.{le-leb, ne-eqb, lt-ltb, le-ltb}
 use Rattle.program.specs.Reading.{commandsOf}
+use Rattle.program.specs.Scan.{fitsLength}
 use Rattle.program.specs.Table.{workLimit, numberOf}
 use Rattle.program.proofs.Basic.{Bytes}
-use Rattle.program.proofs.TableLaws.{too-long, too-many}
+use Rattle.program.proofs.TableLaws.{too-long, many-bodies}
 use Rattle.program.proofs.ShapeListed.{passes}
 use Rattle.program.proofs.ShapeLaws.{numbered}
 use Rattle.builder.specs.Build.{commandIn, entryOf, endsIn, bytesOf, listBytes, builtNumber, builtLength, builtBytes, listedNumber, listedCount, listedEntries}
 use Rattle.builder.specs.Filled.{capped, Written, Filled}
-use Rattle.builder.proofs.Entries.{Five}
+use Rattle.builder.proofs.Entries.{Five, ends-some}
 use Rattle.builder.proofs.ReadsBack.{reads-back}
 use Rattle.builder.proofs.BuildsBack.{builds-back}
 
@@ -45,7 +48,7 @@ capped-number n s = by (decLe n 16)
   where
     by : Dec (n ≤ 16) → numberOf workLimit (capped n ∷ s) ≡ numberOf workLimit (n ∷ s)
     by (yes h) = ap (λ (x : ℕ). numberOf workLimit (x ∷ s)) (let e : capped n ≡ n = omega arith in e)
-    by (no h) = too-many workLimit (capped n) n s (omega arith) (omega arith)
+    by (no h) = many-bodies workLimit (capped n) s (omega arith) ∙ sym (many-bodies workLimit n s (omega arith))
 
 module _ {entries : List (List ℕ)} {out : List ℕ} {n : ℕ} (w : Written entries out n) where
   pub written-long : length (take n out) ≡ n
@@ -75,6 +78,15 @@ abbrev pub Builds : List (List ℕ) → List ℕ → ℕ → ℕ → List ℕ �
 Builds entries buffer number size after =
     (number ≡ builtNumber entries (length buffer))
     × ((size ≡ builtLength entries (length buffer)) × ((after ≡ builtBytes entries buffer) × (number ≡ 0 → commandsOf (take size after) ≡ map commandIn entries)))
+
+-- "more than 16 gives 2", where there are at most 2,048 bytes.
+pub ends-many : (entries : List (List ℕ)) (room : ℕ) → Five entries → 16 < endsIn entries → length (listBytes entries) ≤ 2048 → builtNumber entries room ≡ 2
+unfolding builtNumber listBytes fitsLength
+ends-many entries room five many h =
+    let some = ends-some entries five (omega arith) in
+    let two : leb 2 (length (listBytes entries)) ≡ true = le-leb 2 (length (listBytes entries)) (omega arith) in
+    let e : numberOf workLimit (listBytes entries) ≡ 2 = many-bodies workLimit (endsIn entries) (bytesOf entries) many ∙ rw (two, le-leb (length (listBytes entries)) 2048 h) in
+    rw e
 
 module _ (entries : List (List ℕ)) (buffer : List ℕ) where
   -- The bytes are turned down.

@@ -7,8 +7,7 @@ use mathlib.Core.Bool.{Bool, true, false, cond}
 use mathlib.Core.Path.{_≡_, refl, sym, ap, _∙_}
 use lib.ListN.{length, getD, take, take-append-drop}
 use lib.Dec.{eqb}
-use Rattle.program.specs.Command.{rows, rowAt, widthAt, width, opcode, operandsOf, commandOf, isEnd}
-use Rattle.program.specs.Inner.Coding.{padded}
+use Rattle.program.specs.Command.{rows, rowAt, widthAt, width, opcode, operandsOf, padded, commandOf, isEnd}
 use Rattle.program.specs.Reading.{read, commandsOf}
 use Rattle.program.specs.Scan.{scan, bodyAfter}
 use Rattle.program.specs.declared.command.Command.{Command}

@@ -5,7 +5,7 @@ use native.Mathlib.Numerals.{add-one}
 use mathlib.Core.List.{List, [], _∷_, _++_}
 use mathlib.Core.Bool.{cond}
 use mathlib.Core.Path.{_≡_}
-use lib.ListN.{length, getD, take, drop}
+use lib.ListN.{length, getD, take, drop, length-append}
 use lib.Seq.{length-take-le, drop-cons}
 use lib.Dec.{eqb}
 use Rattle.program.specs.Command.{rowAt, widthAt}
@@ -47,3 +47,9 @@ bytes-next entries i h = rw (drop-cons entries i [] h, add-one)
 pub ends-next : (entries : List (List ℕ)) (i : ℕ) → i < length entries → endsIn (drop i entries) ≡ cond (eqb (getD (getD entries i []) 0 0) 0x00) 1 0 + endsIn (drop (i + 1) entries)
 unfolding endsIn
 ends-next entries i h = rw (drop-cons entries i [] h, add-one)
+
+-- A list with an END makes some byte.
+pub ends-some : (entries : List (List ℕ)) → Five entries → 0 < endsIn entries → 0 < length (bytesOf entries)
+unfolding endsIn bytesOf widthAt
+ends-some [] five h = absurd (let y : ⊥ = omega arith in y)
+ends-some (l ∷ entries) five h = let w = bytes-long l (five 0 (omega arith)) in rw length-append (omega arith)

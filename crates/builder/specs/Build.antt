@@ -4,14 +4,14 @@ use mathlib.Core.List.{List, [], _∷_, _++_, map}
 use mathlib.Core.Bool.{cond}
 use lib.ListN.{length, getD, take, drop}
 use lib.Dec.{ltb, eqb}
-use Rattle.program.specs.Command.{widthAt, opcode, operandsOf, commandOf}
+use Rattle.program.specs.Command.{widthAt, opcode, operandsOf, padded, commandOf}
 use Rattle.program.specs.Reading.{commandsOf}
 use Rattle.program.specs.Table.{workLimit, numberOf}
-use Rattle.program.specs.Inner.Coding.{padded}
 use Rattle.program.specs.declared.command.Command.{Command}
 
--- An entry stands for "a .. command with operands": five bytes, the command byte, then its operand bytes in the order of the table. The bytes that the
--- command lacks are not looked at, and a byte that is no command stands alone. The k commands of an ATOM are the k entries after it.
+-- "a list of commands with operands": an entry for each, of five bytes. First the command byte, then its operand bytes in the order of the table; the bytes that
+-- the command lacks are not looked at. The k commands of an ATOM are the k entries after it. A byte that is no command stands alone; `commandIn` reads END there,
+-- and a list with one is always turned away.
 unfoldable pub commandIn : List ℕ → Command
 commandIn entry = commandOf (getD entry 0 0) (drop 1 entry)
 

@@ -131,11 +131,11 @@ accepted entries buffer size after = record { entries = entries; buffer = buffer
 abbrev turnedAway : List (List ℕ) → List ℕ → ℕ → Build
 turnedAway entries buffer number = record { entries = entries; buffer = buffer; number = number; size = 0; after = buffer }
 
--- By a number of the reader, with room for what would be made or with none.
+-- By a number of the reader, in seven bytes: enough for some of the lists.
 abbrev refused : List (List ℕ) → ℕ → Build
 refused entries number = turnedAway entries (0xA1 ∷ 0xA2 ∷ 0xA3 ∷ 0xA4 ∷ 0xA5 ∷ 0xA6 ∷ 0xA7 ∷ []) number
 
--- Work of 65,282 and of each FETCH.
+-- Work of 65,282, and 1 for each FETCH.
 abbrev working : ℕ → List (List ℕ)
 working fetches = two 0x07 0xFF 0x01 ∷ replicate fetches (one 0x0D 0x0F) ++ (end ∷ two 0x07 0xFE 0x02 ∷ end ∷ end ∷ [])
 
@@ -217,19 +217,19 @@ everyListed =
     ∷ (0x00 ∷ 0 ∷ 0 ∷ 0 ∷ 0 ∷ [])
     ∷ []
 
-abbrev accounted : List ℕ → List (List ℕ) → ℕ → List (List ℕ) → Listing
-accounted table entries count after = record { table = table; entries = entries; number = 0; count = count; after = after }
+abbrev listedAs : List ℕ → List (List ℕ) → ℕ → List (List ℕ) → Listing
+listedAs table entries count after = record { table = table; entries = entries; number = 0; count = count; after = after }
 
 abbrev unlisted : List ℕ → List (List ℕ) → ℕ → Listing
 unlisted table entries number = record { table = table; entries = entries; number = number; count = 0; after = entries }
 
 unfoldable pub listed : List Listing
 listed =
-    accounted walkTable (replicate 8 (alone 0xA5)) 6 (walkListed ++ replicate 2 (alone 0xA5))
-    ∷ accounted walkTable (replicate 6 (alone 0xA5)) 6 walkListed
+    listedAs walkTable (replicate 8 (alone 0xA5)) 6 (walkListed ++ replicate 2 (alone 0xA5))
+    ∷ listedAs walkTable (replicate 6 (alone 0xA5)) 6 walkListed
     ∷ unlisted walkTable (replicate 5 (alone 0xA5)) 18
     ∷ unlisted walkTable [] 18
-    ∷ accounted everyTable (replicate 24 (alone 0x5A)) 23 (everyListed ++ (alone 0x5A ∷ []))
+    ∷ listedAs everyTable (replicate 24 (alone 0x5A)) 23 (everyListed ++ (alone 0x5A ∷ []))
     ∷ unlisted [] (replicate 3 (alone 0xA5)) 1
     ∷ unlisted (0x00 ∷ 0x00 ∷ []) (replicate 3 (alone 0xA5)) 2
     ∷ unlisted (0x01 ∷ 0x11 ∷ []) [] 3

@@ -15,7 +15,7 @@ capped ends = min ends 17
 unfoldable pub Counted : ℕ → ℕ → ℕ → Type 0
 Counted ends op r = ends ≤ 17 → r ≡ capped (ends + cond (eqb op 0x00) 1 0)
 
--- All entries are written: n bytes, each entry's five looked at.
+-- All entries are written, n bytes, and each entry has five.
 pub record Written (entries : List (List ℕ)) (out : List ℕ) (n : ℕ) : Type 0 where
   pub long : n ≡ length (listBytes entries)
   pub bytes : take n out ≡ capped (endsIn entries) ∷ bytesOf entries

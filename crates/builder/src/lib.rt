@@ -1,6 +1,6 @@
 // Builds tables from lists of commands, and lists the commands of a table. It relies only on what `program` promises.
 // A list is a slice of entries of five bytes: the command byte, its operand bytes in the order of the table, and bytes that the command lacks, which
-// are not looked at. Each call answers the paper's number.
+// are not looked at. Each call answers the documents' number.
 ghost use mathlib.Core.Path.{_≡_};
 ghost use mathlib.Core.List.{map};
 ghost use lib.ListN.{length, take};

@@ -8,8 +8,8 @@ use native.Mathlib.Omega.{arith}
 use lib.Dec.{eqb, ltb, leb}
 use lib.ListN.{length, getD, drop, List·getD-append, List·getD-eq-default}
 use borrow.Author.Tests.{leb-true, ne-eqb, eqb-true, lt-ltb, le-ltb}
-use Rattle.program.specs.Command.{Operand, clockName, accumulatorName, operatorCode, mask, bodyNumber, runCount, commandCount, cellNumber, valueByte, Row, rows, rowAt, widthAt, rowOf, opcode, operandsOf, operandWhere, has, isBody, isRunCount, isCommandCount}
-use Rattle.program.specs.Inner.Coding.{kindCode, isKind, coded, padded, slotIn, digits, packed}
+use Rattle.program.specs.Command.{Operand, clockName, accumulatorName, operatorCode, mask, bodyNumber, runCount, commandCount, cellNumber, valueByte, Row, rows, rowAt, widthAt, rowOf, opcode, operandsOf, padded, operandWhere, has, isBody, isRunCount, isCommandCount}
+use Rattle.program.specs.Inner.Coding.{kindCode, isKind, coded, slotIn, digits, packed}
 use Rattle.program.specs.declared.command.Command.{Command}
 use Rattle.program.specs.declared.command.Command.the-variants.{End, Next, Clock, Resume, Drop, Async, Finish, Repeat, Acc, Offer, Read, Reset, Put, Fetch, Store, Add, Atom}
 use Rattle.program.proofs.Basic.{and-true}

@@ -79,20 +79,17 @@ pub too-long : (limit : ℕ) (t : List ℕ) → 2048 < length t → numberOf lim
 unfolding numberOf scan fitsLength
 too-long limit t h = let low : 2 ≤ length t = omega arith in rw (le-leb 2 (length t) low, lt-leb (length t) 2048 h)
 
--- "2. Byte 0 is 0 or above 16.": every number above 16 is answered alike.
-pub too-many : (limit n m : ℕ) (s : List ℕ) → 16 < n → 16 < m → numberOf limit (n ∷ s) ≡ numberOf limit (m ∷ s)
+-- "2. Byte 0 is 0 or above 16.": a number above 16 gives 2, where the length fits.
+pub many-bodies : (limit n : ℕ) (s : List ℕ) → 16 < n → numberOf limit (n ∷ s) ≡ cond (fitsLength (0 ∷ s)) 2 1
 unfolding numberOf scan fitsLength fitsBodies
-too-many limit n m s h k = one n h ∙ sym (one m k)
+many-bodies limit n s h = rw none (by (fitsLength (0 ∷ s)) (overCount limit (programOf (n ∷ s))))
   where
-    none : (x : ℕ) → 16 < x → leb 1 x && leb x 16 ≡ false
-    none x h = let low : 1 ≤ x = omega arith in rw (le-leb 1 x low, lt-leb x 16 h)
+    none : leb 1 n && leb n 16 ≡ false
+    none = let low : 1 ≤ n = omega arith in rw (le-leb 1 n low, lt-leb n 16 h)
 
     by : (fits : Bool) (m : ℕ) → cond (eqb (cond fits 2 1) 0) m (cond fits 2 1) ≡ cond fits 2 1
     by true m = refl
     by false m = refl
-
-    one : (x : ℕ) → 16 < x → numberOf limit (x ∷ s) ≡ cond (fitsLength (0 ∷ s)) 2 1
-    one x h = rw (none x h) (by (fitsLength (0 ∷ s)) (overCount limit (programOf (x ∷ s))))
 
 module _ (t : List ℕ) where
   -- WHAT THE SCAN ANSWERED

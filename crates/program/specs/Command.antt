@@ -106,6 +106,10 @@ operandsOf (Store d) = d ∷ []
 operandsOf (Add d) = d ∷ []
 operandsOf (Atom k) = k ∷ []
 
+-- The first four of a list, 0 for those that it lacks.
+abbrev pub padded : List ℕ → List ℕ
+padded s = getD s 0 0 ∷ getD s 1 0 ∷ getD s 2 0 ∷ getD s 3 0 ∷ []
+
 -- Four bytes, lowest first.
 abbrev pub word : List ℕ → ℕ
 word s = getD s 0 0 + 256 * getD s 1 0 + 65536 * getD s 2 0 + 16777216 * getD s 3 0

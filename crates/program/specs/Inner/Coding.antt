@@ -1,8 +1,8 @@
 -- How the code holds the rows of the commands: eight numbers each, the kinds of operands as numbers too.
-use Prim.Native.Nat.{ℕ, _+_, _*_, _<_, _≤_}
+use Prim.Native.Nat.{ℕ, _+_, _*_}
 use mathlib.Core.Path.{_≡_}
 use mathlib.Core.List.{List, [], _∷_, _++_, map}
-use mathlib.Core.Bool.{Bool, true, false, cond, _&&_}
+use mathlib.Core.Bool.{Bool, cond, _&&_}
 use lib.ListN.{length, getD}
 use lib.Dec.{eqb, leb}
 use Rattle.program.specs.Command.{Operand, clockName, accumulatorName, operatorCode, mask, bodyNumber, runCount, commandCount, cellNumber, valueByte, Row, rowOf, word, commandOf}
@@ -48,10 +48,6 @@ digits r = coded r ++ (slotIn 5 (coded r) ∷ slotIn 6 (coded r) ∷ slotIn 7 (c
 unfoldable pub packed : List ℕ → ℕ
 packed [] = 0
 packed (x ∷ s) = x + 16 * packed s
-
--- The first four of a list, 0 for those that it lacks.
-abbrev pub padded : List ℕ → List ℕ
-padded s = getD s 0 0 ∷ getD s 1 0 ∷ getD s 2 0 ∷ getD s 3 0 ∷ []
 
 -- What a command counts by itself: work 0, activities 1, clocks 2, accumulators 3.
 unfoldable pub weight : ℕ → Command → ℕ
