@@ -18,3 +18,4 @@ pub mod CountLaws
 pub mod WalkLaws
 pub mod TableLaws
 pub mod PlaceLaws
+mod Cases

@@ -8,5 +8,7 @@ pub mod Table
 pub mod Places
 -- What cases are compared with
 pub mod Same
+-- Cases
+pub mod Cases
 -- What the code promises itself on the way
 pub mod Inner

@@ -17,13 +17,17 @@ use Rattle.rules.specs.Effects.{past, pushed, again, popped, endOf, next
 use Rattle.rules.specs.WellFormed.{isNoActivity, runBy, isPlaced, isBottom, isStacked, frameFits, stackFits, bodyFits, barrierFits, holdFits, namesFit, spawnerFits, activityFits, countsFit, activitiesFit, accumulatorsFit, wellFormed}
 use Rattle.rules.specs.Steps.{at, fault, waits, effect, refusal, exceeds, advance, unfit, startWith, start, stepWith, step, canStep, ready, registrationOn, sheetOf, registrationsNumber, registrations}
 use Rattle.rules.specs.Runs.{runFrom, answersFrom, run, answers, taken, someFault, finished}
-use Rattle.rules.specs.CasesStates.{withActs, withAccs, withCounts, change, nest, nested, pair, paired, crowd, crowded, deep, deepest, atom, standing, breaks, allBreak, broken, answersSo, allSo, reader, reading, handMade, rowsBegin, shows, allShow, renamed, sheets}
+use Rattle.rules.specs.Same.{activityNumbers, sameActivities, sharedNumbers, sameState}
+use Rattle.rules.specs.Written.{activity, written, withActs, withAccs, withCounts, change, changeAcc, nest, nested, pair, paired, crowd, crowded, deep, deepest, atom, standing}
+use Rattle.rules.specs.CasesStates.{allUnfit, breaks, allBreak, broken, unmade, spawned}
+use Rattle.rules.specs.CasesCalls.{startsSo, allStart, started, answersSo, allSo, reader, reading, lined, finish, handMade, rowsBegin, shows, allShow, renamed, sheets}
+use Rattle.rules.specs.CasesRuns.{goes, goesSo, allGo, renaming, faulting, affected}
 use Rattle.rules.specs.CasesValues.{beginsWith, leaves, allLeave, valued}
-use Rattle.rules.specs.Cases.{accepts, holdsFor, allHold, marked, answersBy, stateBy, answersAs, allAnswer, ownTables, own, linesFrom, printed, walkPrints}
+use Rattle.rules.specs.Cases.{accepts, holdsFor, allHold, marked, answersBy, stateBy, answersAs, allAnswer, own, linesFrom, printed, walkPrints}
 
 -- To name this on an `unfolding` line is to open the rules and the cases, for computing with them.
 unfoldable pub opened : Bool
-unfolding rows rowAt commandOf rowOf width names named times held isEnd usesCell read readingsAfter readings wholes commandsOf firstBody afterEnd locate bodiesOf programOf from isPlace nameFits atomFits placing leftAfter bodyAfter verdict fitsLength fitsBodies scan sumOver tallyTo tally workOf activitiesOf clocksOf accumulatorsOf overCount numberOf someBelow allBelow countBelow bitsBelow listFrom chain holdsSome isBehind behind quiescent rest here nextOffset finishes inOwnFinish inFinishBody descends inside lendsUnheld lendsQuiesced asyncFault readFault faultFor behindOf unendedBelow unendedInside waitsFor waitsAt past pushed again popped endOf nextOf repeatOf lent child cellAfter touch touchAll effectOf withStores applied isNoActivity runBy isPlaced isBottom isStacked frameFits stackFits bodyFits barrierFits holdFits namesFit spawnerFits activityFits countsFit activitiesFit accumulatorsFit wellFormed at fault waits effect refusal exceeds advance unfit startWith start stepWith step canStep ready registrationOn sheetOf registrationsNumber registrations runFrom answersFrom run answers taken someFault finished sameList accepts holdsFor allHold marked answersBy stateBy answersAs allAnswer ownTables own beginsWith leaves allLeave valued withActs withAccs withCounts change nest nested pair paired crowd crowded deep deepest atom standing breaks allBreak broken answersSo allSo reader reading handMade rowsBegin shows allShow renamed sheets linesFrom sameLists printed walkPrints
+unfolding rows rowAt commandOf rowOf width names named times held isEnd usesCell read readingsAfter readings wholes commandsOf firstBody afterEnd locate bodiesOf programOf from isPlace nameFits atomFits placing leftAfter bodyAfter verdict fitsLength fitsBodies scan sumOver tallyTo tally workOf activitiesOf clocksOf accumulatorsOf overCount numberOf someBelow allBelow countBelow bitsBelow listFrom chain holdsSome isBehind behind quiescent rest here nextOffset finishes inOwnFinish inFinishBody descends inside lendsUnheld lendsQuiesced asyncFault readFault faultFor behindOf unendedBelow unendedInside waitsFor waitsAt past pushed again popped endOf nextOf repeatOf lent child cellAfter touch touchAll effectOf withStores applied isNoActivity runBy isPlaced isBottom isStacked frameFits stackFits bodyFits barrierFits holdFits namesFit spawnerFits activityFits countsFit activitiesFit accumulatorsFit wellFormed at fault waits effect refusal exceeds advance unfit startWith start stepWith step canStep ready registrationOn sheetOf registrationsNumber registrations runFrom answersFrom run answers taken someFault finished sameList accepts holdsFor allHold marked answersBy stateBy answersAs allAnswer own beginsWith leaves allLeave valued activityNumbers sameActivities sharedNumbers sameState activity written withActs withAccs withCounts change changeAcc nest nested pair paired crowd crowded deep deepest atom standing goes goesSo allGo renaming faulting affected allUnfit breaks allBreak broken unmade spawned startsSo allStart started answersSo allSo reader reading lined finish handMade rowsBegin shows allShow renamed sheets linesFrom sameLists printed walkPrints
 opened = true
 
 marked-hold : allHold marked ≡ true
@@ -34,10 +38,6 @@ walk-prints : walkPrints ≡ true
 unfolding opened
 walk-prints = refl
 
-tables-hold : allHold ownTables ≡ true
-unfolding opened
-tables-hold = refl
-
 own-answer : allAnswer own ≡ true
 unfolding opened
 own-answer = refl
@@ -46,9 +46,33 @@ values-left : allLeave valued ≡ true
 unfolding opened
 values-left = refl
 
+names-go : allGo renaming ≡ true
+unfolding opened
+names-go = refl
+
+faults-go : allGo faulting ≡ true
+unfolding opened
+faults-go = refl
+
+effects-go : allGo affected ≡ true
+unfolding opened
+effects-go = refl
+
 states-break : allBreak broken ≡ true
 unfolding opened
 states-break = refl
+
+unmade-breaks : breaks unmade ≡ true
+unfolding opened
+unmade-breaks = refl
+
+spawned-break : allBreak spawned ≡ true
+unfolding opened
+spawned-break = refl
+
+starts-hold : allStart started ≡ true
+unfolding opened
+starts-hold = refl
 
 states-answer : allSo handMade ≡ true
 unfolding opened
@@ -59,5 +83,10 @@ unfolding opened
 sheets-show = refl
 
 -- Every case of every list.
-pub cases-hold : allHold marked && (walkPrints && (allHold ownTables && (allAnswer own && (allLeave valued && (allBreak broken && (allSo handMade && allShow sheets)))))) ≡ true
-cases-hold = rw (marked-hold, walk-prints, tables-hold, own-answer, values-left, states-break, states-answer, sheets-show)
+pub cases-hold : allHold marked
+    && (walkPrints
+    && (allAnswer own
+    && (allLeave valued
+    && (allGo renaming
+    && (allGo faulting && (allGo affected && (allBreak broken && (breaks unmade && (allBreak spawned && (allStart started && (allSo handMade && allShow sheets))))))))))) ≡ true
+cases-hold = rw (marked-hold, walk-prints, own-answer, values-left, names-go, faults-go, effects-go, states-break, unmade-breaks, spawned-break, starts-hold, states-answer, sheets-show)

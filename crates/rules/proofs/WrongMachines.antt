@@ -15,7 +15,7 @@ use Rattle.rules.specs.declared.answer.Stepped.{Stepped}
 use Rattle.rules.specs.State.{answerNumber}
 use Rattle.rules.specs.Steps.{base, startState, stepped, step, ready}
 use Rattle.rules.specs.Runs.{run, answers, taken}
-use Rattle.rules.specs.CasesStates.{withCounts, pair}
+use Rattle.rules.specs.Written.{withCounts, pair}
 use Rattle.rules.proofs.Cases.{opened}
 
 -- Two machines that step alike.

@@ -140,15 +140,6 @@ unfoldable pub allAnswer : List Answered → Bool
 allAnswer [] = true
 allAnswer (c ∷ cs) = let r = allAnswer cs in answersAs c && r
 
--- Each of the k commands after ATOM is a command in turn: 3 to 6 are tried for it, and then 7.
-unfoldable pub ownTables : List Case
-ownTables =
-    turnedDown (0x01 ∷ 0x10 ∷ 0x01 ∷ 0x11 ∷ []) 3
-    ∷ turnedDown (0x01 ∷ 0x10 ∷ 0x01 ∷ 0x05 ∷ []) 4
-    ∷ turnedDown (0x01 ∷ 0x10 ∷ 0x01 ∷ 0x02 ∷ 0x09 ∷ 0x00 ∷ []) 5
-    ∷ turnedDown (0x01 ∷ 0x10 ∷ 0x01 ∷ 0x06 ∷ 0x00 ∷ 0x00 ∷ []) 6
-    ∷ []
-
 unfoldable pub own : List Answered
 own =
     -- DROP: "the name is free". RESUME: "again changes nothing".

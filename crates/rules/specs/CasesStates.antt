@@ -1,190 +1,69 @@
--- Cases of our own: states made by hand. Number 13 clause by clause, 14 to 17, the ready set and the sheet.
-use Prim.Native.Nat.{ℕ, zero, suc}
-use mathlib.Core.List.{List, [], _∷_}
-use mathlib.Core.Bool.{Bool, true, false, _&&_}
-use lib.ListN.{length, set, replicate}
+-- Cases of our own: states made by hand for number 13, clause by clause, each broken alone where it can be.
+use Prim.Native.Nat.{ℕ}
+use mathlib.Core.List.{List, [], _∷_, map}
+use mathlib.Core.Bool.{Bool, true, _&&_}
+use lib.ListN.{set, replicate}
 use lib.Dec.{eqb}
-use Rattle.rules.specs.declared.state.Fault.the-variants.{F1}
-use Rattle.rules.specs.declared.state.Status.{Status}
+use Rattle.rules.specs.declared.state.Fault.the-variants.{F1, F7}
 use Rattle.rules.specs.declared.state.Status.the-variants.{Running, AtBarrier, Ended, Faulted}
-use Rattle.rules.specs.declared.state.Registration.{Registration}
 use Rattle.rules.specs.declared.state.Registration.the-variants.{Free, Live, Quiesced}
-use Rattle.rules.specs.declared.state.Operator.the-variants.{Sum}
-use Rattle.rules.specs.declared.state.Frame.{Frame}
-use Rattle.rules.specs.declared.state.Hold.{Hold}
+use Rattle.rules.specs.declared.state.Operator.the-variants.{Sum, Minimum, Maximum}
 use Rattle.rules.specs.declared.state.Activity.{Activity}
-use Rattle.rules.specs.declared.state.Accumulator.{Accumulator}
 use Rattle.rules.specs.declared.state.State.{State}
-use Rattle.rules.specs.Search.{listFrom}
-use Rattle.rules.specs.State.{answerNumber, noFrame, noFrames, noHolds, noActivity, act}
+use Rattle.rules.specs.State.{answerNumber, noFrame, noFrames, noHolds}
 use Rattle.rules.specs.Effects.{withFrames, withHolds, withRegister, withNames, stopped}
-use Rattle.rules.specs.Steps.{base, startState, step, ready, registrations}
-use Rattle.rules.specs.Runs.{run}
-use Rattle.rules.specs.CasesValues.{beginsWith}
+use Rattle.rules.specs.Steps.{base, startState, step, ready}
+use Rattle.rules.specs.Written.{frameAt, bottom, holdOn, holding, withFrame, onBody, withHold, withStatus, withSpawner, withCounts, change, changeAcc, nest, nested, pair, paired, crowd, crowded, deep, deepest, atom, standing}
 
--- PARTS CHANGED
-
-abbrev frameAt : ℕ → ℕ → ℕ → ℕ → Frame
-frameAt offset body runs first = record { offset = offset; body = body; runs = runs; first = first }
-
-abbrev holdOn : ℕ → ℕ → Registration → Hold
-holdOn phase clock registration = record { phase = phase; clock = clock; registration = registration }
-
--- An accumulator of an owner.
-abbrev owned : ℕ → Accumulator
-owned i = record { value = 0; owner = i; operator = Sum }
-
-abbrev withFrame : ℕ → Frame → Activity → Activity
-withFrame d f a = withFrames a (a .depth) (set (a .frames) d f)
-
--- A single body on the stack.
-abbrev onBody : Frame → Activity → Activity
-onBody f a = withFrames a 1 (f ∷ replicate 15 noFrame)
-
-abbrev withHold : ℕ → Hold → Activity → Activity
-withHold k h a = withHolds a (a .status) (set (a .holds) k h)
-
-abbrev withStatus : Status → Activity → Activity
-withStatus status a = withHolds a status (a .holds)
-
-abbrev withSpawner : ℕ → Activity → Activity
-withSpawner i a =
-    record {
-      register = a .register;
-      frames = a .frames;
-      holds = a .holds;
-      accumulators = a .accumulators;
-      status = a .status;
-      spawner = i;
-      depth = a .depth;
-    }
-
--- A state with other activities, other accumulators, or other counts: steps, activities, clocks, accumulators.
-unfoldable pub withActs : List Activity → State → State
-withActs acts s =
-    record {
-      cells = s .cells;
-      acts = acts;
-      accs = s .accs;
-      steps = s .steps;
-      activities = s .activities;
-      clocks = s .clocks;
-      accumulators = s .accumulators;
-    }
-
-unfoldable pub withAccs : List Accumulator → State → State
-withAccs accs s =
-    record {
-      cells = s .cells;
-      acts = s .acts;
-      accs = accs;
-      steps = s .steps;
-      activities = s .activities;
-      clocks = s .clocks;
-      accumulators = s .accumulators;
-    }
-
-unfoldable pub withCounts : ℕ → ℕ → ℕ → ℕ → State → State
-withCounts steps activities clocks accumulators s =
-    record {
-      cells = s .cells;
-      acts = s .acts;
-      accs = s .accs;
-      steps = steps;
-      activities = activities;
-      clocks = clocks;
-      accumulators = accumulators;
-    }
-
-unfoldable pub change : ℕ → (Activity → Activity) → State → State
-change i f s = withActs (set (s .acts) i (f (act s i))) s
-
--- TABLES AND STATES TO CHANGE
-
--- FINISH of a body that repeats another twice; main in the first run of the innermost.
-unfoldable pub nest : List ℕ
-nest = 0x03 ∷ 0x06 ∷ 0x01 ∷ 0x00 ∷ 0x07 ∷ 0x02 ∷ 0x02 ∷ 0x00 ∷ 0x00 ∷ []
-
-unfoldable pub nested : State
-nested = withCounts 2 1 0 0 (change 0 (λ a. withFrames a 3 (frameAt 0 0 0 0 ∷ frameAt 0 1 0 1 ∷ frameAt 0 2 2 0 ∷ replicate 13 noFrame)) startState)
-
--- The printed example; main waits for its child at a barrier of clock 0.
-unfoldable pub pair : List ℕ
-pair = 0x02 ∷ 0x02 ∷ 0x00 ∷ 0x05 ∷ 0x01 ∷ 0x01 ∷ 0x01 ∷ 0x00 ∷ 0x01 ∷ 0x00 ∷ []
-
-unfoldable pub paired : State
-paired =
-    withCounts 3 2 1 0 (change 1 (λ a. withHold 0 (holdOn 0 0 Live) (onBody (frameAt 0 1 0 0) a))
-    (change 0 (λ a. withStatus AtBarrier (withHold 0 (holdOn 0 0 Quiesced) (onBody (frameAt 5 0 0 0) a))) startState))
-
--- ASYNC of a body without clocks; main before it, with sixty-three others that have ended.
-unfoldable pub crowd : List ℕ
-crowd = 0x02 ∷ 0x05 ∷ 0x01 ∷ 0x00 ∷ 0x00 ∷ 0x00 ∷ []
-
-unfoldable pub crowded : State
-crowded = withCounts 0 64 0 0 (withActs (act startState 0 ∷ replicate 63 (stopped noActivity Ended)) startState)
-
--- Sixteen bodies, each but the last repeating the next once; main in the last.
-unfoldable pub deep : List ℕ
-deep = 0x10 ∷ links 15 1
-  where
-    links : ℕ → ℕ → List ℕ
-    links zero b = 0x00 ∷ []
-    links (suc n) b = 0x07 ∷ 0x01 ∷ b ∷ 0x00 ∷ links n (suc b)
-
-unfoldable pub deepest : ℕ → State
-deepest depth = change 0 (λ a. withFrames a depth (frameAt 0 0 0 0 ∷ listFrom 15 1 (λ b. frameAt 0 b 1 0))) startState
-
--- An ATOM of one FETCH.
-unfoldable pub atom : List ℕ
-atom = 0x01 ∷ 0x10 ∷ 0x01 ∷ 0x0D ∷ 0x00 ∷ 0x00 ∷ []
-
-unfoldable pub standing : ℕ → State
-standing offset = change 0 (onBody (frameAt offset 0 0 0)) startState
-
--- NUMBER 13
-
--- A fit state, and one in which a single clause is broken.
+-- A fit state, and states in each of which a single clause is broken.
 pub record Broken : Type 0 where
   pub table : List ℕ
   pub fit : State
-  pub unfit : State
+  pub unfit : List State
 
--- The second is turned down with 13, the first is not.
+unfoldable pub allUnfit : List ℕ → List State → Bool
+allUnfit t [] = true
+allUnfit t (s ∷ ss) = let r = allUnfit t ss in eqb (answerNumber (step base t s 0 .answer)) 13 && r
+
+-- The first is not turned down, the others are, with 13.
 unfoldable pub breaks : Broken → Bool
-breaks c = eqb (ready base (c .table) (c .fit) .number) 0 && eqb (answerNumber (step base (c .table) (c .unfit) 0 .answer)) 13
+breaks c = eqb (ready base (c .table) (c .fit) .number) 0 && allUnfit (c .table) (c .unfit)
 
 unfoldable pub allBreak : List Broken → Bool
 allBreak [] = true
 allBreak (c ∷ cs) = let r = allBreak cs in breaks c && r
 
+-- One state, and changes that each break a clause.
+abbrev changed : List ℕ → State → List (State → State) → Broken
+changed table s changes = record { table = table; fit = s; unfit = map (λ (f : State → State). f s) changes }
+
+-- A single activity changed: main of `nested`, the child of `paired`.
 abbrev inNest : (Activity → Activity) → Broken
-inNest f = record { table = nest; fit = nested; unfit = change 0 f nested }
+inNest f = changed nest nested (change 0 f ∷ [])
 
 abbrev inPair : (Activity → Activity) → (Activity → Activity) → Broken
-inPair f g = record { table = pair; fit = change 1 f paired; unfit = change 1 g paired }
+inPair f g = record { table = pair; fit = change 1 f paired; unfit = change 1 g paired ∷ [] }
 
-abbrev same : Activity → Activity
+abbrev pub same : Activity → Activity
 same a = a
 
 unfoldable pub broken : List Broken
 broken =
     -- "a count .. is over its limit (..)": activities, clocks, accumulators, the bodies of a stack
-    record { table = crowd; fit = crowded; unfit = withCounts 0 65 0 0 crowded }
-    ∷ record { table = nest; fit = withCounts 2 1 16 0 nested; unfit = withCounts 2 1 17 0 nested }
-    ∷ record { table = nest; fit = withCounts 2 1 0 16 nested; unfit = withCounts 2 1 0 17 nested }
-    ∷ record { table = deep; fit = deepest 16; unfit = deepest 17 }
+    record { table = crowd; fit = crowded; unfit = withCounts 0 65 0 0 crowded ∷ [] }
+    ∷ record { table = nest; fit = withCounts 2 1 16 0 nested; unfit = withCounts 2 1 17 0 nested ∷ [] }
+    ∷ record { table = nest; fit = withCounts 2 1 0 16 nested; unfit = withCounts 2 1 0 17 nested ∷ [] }
+    ∷ record { table = deep; fit = deepest 16; unfit = deepest 17 ∷ [] }
     -- ".. or phase is over its limit (phases 65,535)"
     ∷ inPair (withHold 0 (holdOn 65535 0 Live)) (withHold 0 (holdOn 65536 0 Live))
     -- "steps taken exceed the work"
-    ∷ record { table = nest; fit = withCounts 6 1 0 0 nested; unfit = withCounts 7 1 0 0 nested }
+    ∷ record { table = nest; fit = withCounts 6 1 0 0 nested; unfit = withCounts 7 1 0 0 nested ∷ [] }
     -- "a repeat has 0 runs left or more than its n"
     ∷ inNest (withFrame 2 (frameAt 0 2 0 0))
     ∷ inNest (withFrame 2 (frameAt 0 2 3 0))
     -- "a place is no command of its body (the k commands belong to their ATOM)"
-    ∷ record { table = atom; fit = standing 4; unfit = standing 2 }
-    ∷ record { table = atom; fit = standing 0; unfit = standing 1 }
-    ∷ record { table = atom; fit = standing 0; unfit = change 0 (withFrame 0 (frameAt 0 1 0 0)) startState }
+    ∷ record { table = atom; fit = standing 4; unfit = standing 2 ∷ [] }
+    ∷ record { table = atom; fit = standing 0; unfit = standing 1 ∷ change 0 (withFrame 0 (bottom 0 1)) startState ∷ [] }
     -- "an unended activity has no body"
     ∷ inNest (λ a. withFrames a 0 noFrames)
     ∷ inPair (λ a. stopped a Ended) (λ a. withHolds (withFrames a 0 noFrames) Running noHolds)
@@ -206,9 +85,9 @@ broken =
     -- "an unmade thing is named": a clock, an accumulator, an activity as owner and as the first inside a finish
     ∷ inPair same (withHold 0 (holdOn 0 1 Live))
     ∷ inNest (λ a. withNames a (1 ∷ replicate 7 0))
-    ∷ record { table = pair; fit = withCounts 3 2 1 1 (withAccs (set (paired .accs) 0 (owned 1)) paired); unfit = withCounts 3 2 1 1 (withAccs (set (paired .accs) 0 (owned 2)) paired) }
+    ∷ record { table = pair; fit = withCounts 3 2 1 1 (changeAcc 0 (holding 0 Sum 1) paired); unfit = withCounts 3 2 1 1 (changeAcc 0 (holding 0 Sum 2) paired) ∷ [] }
     ∷ inNest (withFrame 1 (frameAt 0 1 0 2))
-    -- "an unused entry is not 0": of a name, of a stack, of a frame, main's spawner, an activity, an accumulator
+    -- "an unused entry is not 0": of a name, of a stack, of a frame, main's spawner
     ∷ inPair same (withHold 1 (holdOn 1 0 Free))
     ∷ inPair same (withFrame 1 (frameAt 0 1 0 0))
     ∷ inNest (withFrame 0 (frameAt 0 0 1 0))
@@ -216,95 +95,91 @@ broken =
     ∷ inNest (withFrame 1 (frameAt 0 1 1 1))
     ∷ inNest (withFrame 2 (frameAt 0 2 2 1))
     ∷ inNest (withSpawner 1)
-    ∷ record { table = nest; fit = nested; unfit = change 1 (λ a. withRegister a 1) nested }
-    ∷ record { table = nest; fit = nested; unfit = withAccs (set (nested .accs) 0 (owned 1)) nested }
     ∷ []
 
--- NUMBERS 14 TO 17, AND THE READY SET
+-- EVERY UNUSED ENTRY
 
--- What is answered to a step of the activity, and the ready set with its number.
-pub record Handed : Type 0 where
-  pub table : List ℕ
-  pub state : State
-  pub activity : ℕ
-  pub answer : ℕ
-  pub number : ℕ
-  pub set : ℕ
+-- "an unused entry is not 0": each field of an unspawned activity and of an unmade accumulator, the first and the last of each.
+unfoldable pub unmade : Broken
+unmade =
+    changed nest nested
+    (change 1 (λ a. withRegister a 1)
+    ∷ change 63 (λ a. withRegister a 1)
+    ∷ change 1 (withFrame 0 (frameAt 1 0 0 0))
+    ∷ change 1 (withFrame 1 (frameAt 0 1 0 0))
+    ∷ change 63 (withFrame 15 (frameAt 0 1 0 0))
+    ∷ change 1 (withFrame 15 (frameAt 0 0 1 0))
+    ∷ change 1 (withFrame 2 (frameAt 0 0 0 1))
+    ∷ change 1 (withHold 0 (holdOn 1 0 Free))
+    ∷ change 1 (withHold 7 (holdOn 1 0 Free))
+    ∷ change 63 (withHold 3 (holdOn 0 1 Free))
+    ∷ change 1 (withHold 4 (holdOn 0 0 Live))
+    ∷ change 63 (withHold 7 (holdOn 0 0 Quiesced))
+    ∷ change 1 (λ a. withNames a (1 ∷ replicate 7 0))
+    ∷ change 63 (λ a. withNames a (set (replicate 8 0) 7 1))
+    ∷ change 1 (withStatus AtBarrier)
+    ∷ change 63 (withStatus Ended)
+    ∷ change 1 (withStatus (Faulted F7))
+    ∷ change 1 (withSpawner 1)
+    ∷ change 63 (withSpawner 1)
+    ∷ change 1 (λ a. withFrames a 1 noFrames)
+    ∷ changeAcc 0 (holding 1 Sum 0)
+    ∷ changeAcc 15 (holding 1 Sum 0)
+    ∷ changeAcc 0 (holding 0 Sum 1)
+    ∷ changeAcc 0 (holding 0 Minimum 0)
+    ∷ changeAcc 15 (holding 0 Maximum 0)
+    ∷ [])
 
-unfoldable pub answersSo : Handed → Bool
-answersSo c =
-    let r = ready base (c .table) (c .state) in
-    eqb (answerNumber (step base (c .table) (c .state) (c .activity) .answer)) (c .answer) && (eqb (r .number) (c .number) && eqb (r .set) (c .set))
+-- A SPAWNED ACTIVITY'S NAMES AND STACK
 
-unfoldable pub allSo : List Handed → Bool
-allSo [] = true
-allSo (c ∷ cs) = let r = allSo cs in answersSo c && r
+-- What number i may break alone where three clocks and two accumulators are made. It holds clock 1 under name 2 and has accumulator 1 under name 7.
+abbrev owning : Activity → Activity
+owning a = withNames (withHold 2 (holdOn 3 1 Live) a) (set (replicate 8 0) 7 2)
 
-abbrev handed : List ℕ → State → ℕ → ℕ → ℕ → Handed
-handed table state activity answer set = record { table = table; state = state; activity = activity; answer = answer; number = 0; set = set }
-
--- READ as the first command of body 0; main, ended or not, owns an accumulator and has a child that has not ended.
-unfoldable pub reader : List ℕ
-reader = 0x02 ∷ 0x0A ∷ 0x00 ∷ 0x00 ∷ 0x00 ∷ []
-
-unfoldable pub reading : (Activity → Activity) → State
-reading f =
-    withCounts 0 2 0 1 (change 1 (onBody (frameAt 0 1 0 0)) (change 0 (λ a. withNames (f a) (1 ∷ replicate 7 0)) startState))
-
-unfoldable pub handMade : List Handed
-handMade =
-    -- The table's number before 13, and 13 before 14.
-    record { table = 0x00 ∷ 0x00 ∷ []; state = withCounts 7 1 0 0 nested; activity = 0; answer = 2; number = 2; set = 0 }
-    ∷ record { table = nest; state = withCounts 7 1 0 0 nested; activity = 64; answer = 13; number = 13; set = 0 }
-    -- 14; 15 before 16, in the same state but for main's end; a state with no activity.
-    ∷ handed reader (reading same) 2 14 2
-    ∷ handed reader (reading same) 0 16 2
-    ∷ handed reader (reading (λ a. stopped a Ended)) 0 15 2
-    ∷ handed nest (withCounts 0 0 0 0 (change 0 (λ a. noActivity) startState)) 0 14 0
-    -- 17, with the activity in the ready set: "a 65th activity", "17th clock", "or accumulator", "phase 65,536", "or more steps than the work".
-    ∷ handed crowd crowded 0 17 1
-    ∷ handed (0x01 ∷ 0x02 ∷ 0x00 ∷ 0x00 ∷ []) (withCounts 0 1 16 0 startState) 0 17 1
-    ∷ handed (0x01 ∷ 0x08 ∷ 0x00 ∷ 0x00 ∷ 0x00 ∷ []) (withCounts 0 1 0 16 startState) 0 17 1
-    ∷ handed pair (change 0 (withHold 0 (holdOn 65535 0 Quiesced)) (change 1 (λ a. stopped a Ended) paired)) 0 17 1
-    ∷ handed pair (withCounts 8 2 1 0 paired) 1 17 2
-    -- Of a faulting step only the last: an ASYNC that faults needs no 65th activity.
-    ∷ handed (0x01 ∷ 0x03 ∷ 0x00 ∷ 0x00 ∷ []) (withCounts 2 1 0 0 startState) 0 17 1
-    ∷ handed (0x02 ∷ 0x05 ∷ 0x01 ∷ 0x01 ∷ 0x00 ∷ 0x00 ∷ []) crowded 0 101 1
-    -- 16 before 17: the activity that waits is not in the ready set.
-    ∷ handed pair (withCounts 8 2 1 0 paired) 0 16 2
+abbrev breaking : ℕ → List (State → State)
+breaking i =
+    -- two names for one clock: whatever the names, the phases and the registrations are
+    change i (withHold 5 (holdOn 3 1 Live))
+    ∷ change i (withHold 7 (holdOn 4 1 Quiesced))
+    ∷ change i (withHold 1 (holdOn 3 1 Live))
+    ∷ change i (λ a. withHold 6 (holdOn 0 2 Live) (withHold 7 (holdOn 0 2 Live) a))
+    -- a clock's and an accumulator's number out of range, a phase over its limit
+    ∷ change i (withHold 7 (holdOn 0 3 Live))
+    ∷ change i (withHold 7 (holdOn 65536 2 Quiesced))
+    ∷ change i (λ a. withNames a (set (replicate 8 0) 7 3))
+    ∷ change i (λ a. withNames a (set (replicate 8 0) 4 3))
+    -- a free name's phase and clock number
+    ∷ change i (withHold 7 (holdOn 1 0 Free))
+    ∷ change i (withHold 3 (holdOn 0 2 Free))
+    -- an unused frame
+    ∷ change i (withFrame 1 (frameAt 1 0 0 0))
+    ∷ change i (withFrame 15 (frameAt 1 0 0 0))
+    ∷ change i (withFrame 15 (frameAt 0 1 0 0))
+    ∷ change i (withFrame 4 (frameAt 0 0 1 0))
+    ∷ change i (withFrame 4 (frameAt 0 0 0 1))
+    -- the stack, the status and the spawner
+    ∷ change i (onBody (bottom 3 1))
+    ∷ change i (onBody (frameAt 0 1 1 0))
+    ∷ change i (onBody (frameAt 0 1 0 1))
+    ∷ change i (withStatus Ended)
+    ∷ change i (withStatus (Faulted F7))
+    ∷ change i (λ a. stopped a Running)
+    ∷ change i (withSpawner i)
     ∷ []
 
--- THE SHEET
-
--- The first rows by their first entries; the others are 0.
-pub record Sheet : Type 0 where
-  pub table : List ℕ
-  pub state : State
-  pub rows : List (List ℕ)
-
--- Rows of sixteen entries each.
-unfoldable pub rowsBegin : List (List ℕ) → List (List ℕ) → Bool
-rowsBegin [] [] = true
-rowsBegin [] (y ∷ ys) = false
-rowsBegin (x ∷ xs) [] = let r = rowsBegin xs [] in (eqb (length x) 16 && beginsWith x []) && r
-rowsBegin (x ∷ xs) (y ∷ ys) = let r = rowsBegin xs ys in (eqb (length x) 16 && beginsWith x y) && r
-
-unfoldable pub shows : Sheet → Bool
-shows c = let sheet = registrations base (c .table) (c .state) in eqb (length sheet) 64 && rowsBegin sheet (c .rows)
-
-unfoldable pub allShow : List Sheet → Bool
-allShow [] = true
-allShow (c ∷ cs) = let r = allShow cs in shows c && r
-
--- CLOCK 0, DROP 0, CLOCK 3.
-unfoldable pub renamed : List ℕ
-renamed = 0x01 ∷ 0x02 ∷ 0x00 ∷ 0x04 ∷ 0x00 ∷ 0x02 ∷ 0x03 ∷ 0x00 ∷ []
-
-unfoldable pub sheets : List Sheet
-sheets =
-    record { table = pair; state = run base pair (0 ∷ 0 ∷ 0 ∷ []); rows = (2 ∷ []) ∷ (1 ∷ []) ∷ [] }
-    -- By clock number and not by name.
-    ∷ record { table = renamed; state = run base renamed (0 ∷ 0 ∷ 0 ∷ []); rows = (0 ∷ 1 ∷ []) ∷ [] }
-    -- "a standing sheet of zeros"
-    ∷ record { table = pair; state = withCounts 9 2 1 0 paired; rows = [] }
+-- The child of `paired`; and activity 63, on the END of body 1, where a status at a meeting is not on NEXT.
+unfoldable pub spawned : List Broken
+spawned =
+    changed pair (withCounts 3 2 3 2 (change 1 (λ a. owning (withHold 0 (holdOn 0 0 Live) a)) paired)) (breaking 1)
+    ∷ changed crowd (withCounts 0 64 3 2 (change 63 (λ a. owning (withStatus Running (onBody (bottom 0 1) a))) crowded)) (change 63 (withStatus AtBarrier) ∷ breaking 63)
+    -- the last body of sixteen
+    ∷ changed deep (deepest 16)
+    (change 0 (withFrame 15 (frameAt 1 15 1 0))
+    ∷ change 0 (withFrame 15 (frameAt 0 15 0 0))
+    ∷ change 0 (withFrame 15 (frameAt 0 15 2 0))
+    ∷ change 0 (withFrame 15 (frameAt 0 15 1 1))
+    ∷ change 0 (withFrame 15 (frameAt 0 14 1 0))
+    ∷ [])
+    -- the last accumulator's owner
+    ∷ record { table = pair; fit = withCounts 3 2 1 16 (changeAcc 15 (holding 7 Maximum 1) paired); unfit = withCounts 3 2 1 16 (changeAcc 15 (holding 7 Maximum 2) paired) ∷ [] }
     ∷ []

@@ -10,6 +10,10 @@ pub mod Steps
 pub mod Runs
 pub mod History
 pub mod Demand3
+pub mod Same
+pub mod Written
 pub mod Cases
 pub mod CasesValues
+pub mod CasesRuns
 pub mod CasesStates
+pub mod CasesCalls
