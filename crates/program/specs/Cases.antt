@@ -1,8 +1,11 @@
 -- Cases of our own: tables, and what the reader tells of each: the number for which it is turned down, or where its bodies begin and its counts.
-use Prim.Native.Nat.{ℕ, zero, suc, _-_}
-use mathlib.Core.List.{List, [], _∷_, _++_}
+use Prim.Native.Nat.{ℕ, zero, suc, _+_, _-_}
+use mathlib.Core.List.{List, [], _∷_, _++_, map}
 use mathlib.Core.Bool.{Bool, true, _&&_}
-use lib.ListN.{length, replicate}
+use lib.ListN.{length, drop, replicate}
+use Rattle.program.specs.declared.command.Command.{Command}
+use Rattle.program.specs.Command.{opcode, operandsOf, padded, width, widthAt}
+use Rattle.program.specs.Reading.{commandsOf}
 use Rattle.program.specs.Table.{workLimit, tableOf}
 use Rattle.program.specs.Same.{sameList}
 use Rattle.program.specs.declared.scan.Layout.{Layout}
@@ -55,14 +58,10 @@ working n = 0x03 ∷ 0x07 ∷ 0xFF ∷ 0x01 ∷ fetches n ++ (0x00 ∷ 0x07 ∷ 
 abbrev repeated : ℕ → List ℕ → List ℕ
 repeated n commands = 0x03 ∷ 0x07 ∷ n ∷ 0x01 ∷ 0x00 ∷ commands ++ (0x00 ∷ 0x00 ∷ [])
 
-unfoldable pub complete : List Told
-complete =
-    accepted (0x01 ∷ 0x00 ∷ []) (1 ∷ []) 1 1 0 0
-    -- Sixteen bodies.
-    ∷ accepted (0x10 ∷ replicate 16 0x00) (1 ∷ 2 ∷ 3 ∷ 4 ∷ 5 ∷ 6 ∷ 7 ∷ 8 ∷ 9 ∷ 10 ∷ 11 ∷ 12 ∷ 13 ∷ 14 ∷ 15 ∷ 16 ∷ []) 1 1 0 0
-    -- Every command, in four bodies; both clocks and accumulators, not alike many.
-    ∷ accepted
-    (0x04
+-- Every command, in four bodies; both clocks and accumulators, not alike many.
+abbrev everyCommand : List ℕ
+everyCommand =
+    0x04
     -- CLOCK 7, REPEAT 3 1, ACC 7 2, ASYNC 2 FF, FINISH 3, END: 1 + (1 + 3 * 18) + 1 + (1 + 5) + (1 + 11) + 1
     ∷ 0x02 ∷ 0x07 ∷ 0x07 ∷ 0x03 ∷ 0x01 ∷ 0x08 ∷ 0x07 ∷ 0x02 ∷ 0x05 ∷ 0x02 ∷ 0xFF ∷ 0x06 ∷ 0x03 ∷ 0x00
     -- ACC 1 0, ACC 0 1, CLOCK 1, NEXT, ASYNC 3 0, END: 1 + 1 + 1 + 2 + (1 + 11) + 1
@@ -70,9 +69,15 @@ complete =
     -- CLOCK 2, CLOCK 3, ATOM 3 (STORE 15, ADD 0, FETCH 1), REPEAT 0 3, END: 1 + 1 + 1 + 1 + 1
     ∷ 0x02 ∷ 0x02 ∷ 0x02 ∷ 0x03 ∷ 0x10 ∷ 0x03 ∷ 0x0E ∷ 0x0F ∷ 0x0F ∷ 0x00 ∷ 0x0D ∷ 0x01 ∷ 0x07 ∷ 0x00 ∷ 0x03 ∷ 0x00
     -- PUT, ACC 2 2, RESUME 1, DROP 1, OFFER 2, READ 2, RESET 2, FETCH 3, STORE 4, ADD 5, END: 11
-    ∷ 0x0C ∷ 0xFF ∷ 0x11 ∷ 0x00 ∷ 0x10 ∷ 0x08 ∷ 0x02 ∷ 0x02 ∷ 0x03 ∷ 0x01 ∷ 0x04 ∷ 0x01 ∷ 0x09 ∷ 0x02 ∷ 0x0A ∷ 0x02 ∷ 0x0B ∷ 0x02 ∷ 0x0D ∷ 0x03 ∷ 0x0E ∷ 0x04 ∷ 0x0F ∷ 0x05 ∷ 0x00
-    ∷ [])
-    (1 ∷ 15 ∷ 28 ∷ 44 ∷ []) 76 5 6 11
+    ∷ 0x0C ∷ 0xFF ∷ 0x11 ∷ 0x80 ∷ 0x12 ∷ 0x08 ∷ 0x02 ∷ 0x02 ∷ 0x03 ∷ 0x01 ∷ 0x04 ∷ 0x01 ∷ 0x09 ∷ 0x02 ∷ 0x0A ∷ 0x02 ∷ 0x0B ∷ 0x02 ∷ 0x0D ∷ 0x03 ∷ 0x0E ∷ 0x04 ∷ 0x0F ∷ 0x05 ∷ 0x00
+    ∷ []
+
+unfoldable pub complete : List Told
+complete =
+    accepted (0x01 ∷ 0x00 ∷ []) (1 ∷ []) 1 1 0 0
+    -- Sixteen bodies.
+    ∷ accepted (0x10 ∷ replicate 16 0x00) (1 ∷ 2 ∷ 3 ∷ 4 ∷ 5 ∷ 6 ∷ 7 ∷ 8 ∷ 9 ∷ 10 ∷ 11 ∷ 12 ∷ 13 ∷ 14 ∷ 15 ∷ 16 ∷ []) 1 1 0 0
+    ∷ accepted everyCommand (1 ∷ 15 ∷ 28 ∷ 44 ∷ []) 76 5 6 11
     -- "A table's counts are those of body 0": body 1 is named by nobody.
     ∷ accepted (0x02 ∷ 0x00 ∷ 0x01 ∷ 0x02 ∷ 0x00 ∷ 0x08 ∷ 0x00 ∷ 0x00 ∷ 0x00 ∷ []) (1 ∷ 2 ∷ []) 1 1 0 0
     -- The greatest operand of each kind, and the least k.
@@ -186,3 +191,19 @@ limited =
     ∷ refused 11 (repeated 255 (toil ++ acc))
     ∷ refused 12 (repeated 255 toil)
     ∷ []
+
+-- BYTES OF A COMMAND
+
+-- The bytes of commands, from their bytes and operands.
+unfoldable pub spelt : List Command → List ℕ
+spelt [] = []
+spelt (c ∷ cs) = opcode c ∷ operandsOf c ++ spelt cs
+
+-- They are the bytes that were read; the bytes of each command byte, and of one that is no command; the first four of a list.
+unfoldable pub spells : Bool
+spells =
+    sameList (spelt (commandsOf everyCommand)) (drop 1 everyCommand)
+    && (sameList (map width (commandsOf everyCommand)) (map (λ c. length (operandsOf c) + 1) (commandsOf everyCommand))
+    && (sameList (map widthAt (0 ∷ 1 ∷ 2 ∷ 3 ∷ 4 ∷ 5 ∷ 6 ∷ 7 ∷ 8 ∷ 9 ∷ 10 ∷ 11 ∷ 12 ∷ 13 ∷ 14 ∷ 15 ∷ 16 ∷ 17 ∷ 255 ∷ []))
+    (1 ∷ 1 ∷ 2 ∷ 2 ∷ 2 ∷ 3 ∷ 2 ∷ 3 ∷ 3 ∷ 2 ∷ 2 ∷ 2 ∷ 5 ∷ 2 ∷ 2 ∷ 2 ∷ 2 ∷ 1 ∷ 1 ∷ [])
+    && (sameList (padded []) (0 ∷ 0 ∷ 0 ∷ 0 ∷ []) && sameList (padded (5 ∷ 6 ∷ 7 ∷ 8 ∷ 9 ∷ [])) (5 ∷ 6 ∷ 7 ∷ 8 ∷ []))))

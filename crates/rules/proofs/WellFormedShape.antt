@@ -250,7 +250,7 @@ module _ (p : Program) (s : State) (i : ℕ) (a : Activity) (live : isEnded (a .
         spawner = refl;
         offspring = childless refl;
       }
-  shape (Read n) inner b r e = simple (withRegister a (accumulator s (numberUnder a n) .value)) refl (still (Read n) b (λ q. omega arith)) refl refl refl refl refl _ refl refl refl refl
+  shape (Read n) inner b r e = simple _ refl (still (Read n) b (λ q. omega arith)) refl refl refl refl refl _ refl refl refl refl
   shape (Reset n) inner b r e =
       record {
         motion = goes refl (still (Reset n) b (λ q. omega arith)) refl refl;

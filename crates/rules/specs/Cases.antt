@@ -7,7 +7,10 @@ use Rattle.program.specs.Bodies.{Program, programOf}
 use Rattle.program.specs.Count.{workOf, activitiesOf}
 use Rattle.program.specs.Same.{sameList, sameLists}
 use Rattle.rules.specs.Search.{countBelow}
-use Rattle.rules.specs.State.{answerNumber, ended}
+use Rattle.rules.specs.declared.state.Fault.the-variants.{F1, F2, F3, F4, F5, F6, F7}
+use Rattle.rules.specs.declared.state.Registration.the-variants.{Free, Live, Quiesced}
+use Rattle.rules.specs.declared.state.Operator.the-variants.{Sum, Minimum, Maximum}
+use Rattle.rules.specs.State.{faultNumber, faultOf, operatorNumber, operatorOf, registrationNumber, answerNumber, ended}
 use Rattle.rules.specs.declared.state.State.{State}
 use Rattle.rules.specs.Steps.{base, startState, start, advance}
 use Rattle.rules.specs.declared.answer.Answer.{Answer}
@@ -51,6 +54,15 @@ holdsFor c =
 unfoldable pub allHold : List Case → Bool
 allHold [] = true
 allHold (c ∷ cs) = let r = allHold cs in holdsFor c && r
+
+-- The numbers of the enums: of each fault, operator and registration, and there and back for those that have both.
+unfoldable pub numbered : Bool
+numbered =
+    sameList (map faultNumber (F1 ∷ F2 ∷ F3 ∷ F4 ∷ F5 ∷ F6 ∷ F7 ∷ [])) (1 ∷ 2 ∷ 3 ∷ 4 ∷ 5 ∷ 6 ∷ 7 ∷ [])
+    && (sameList (map (λ n. faultNumber (faultOf n)) (1 ∷ 2 ∷ 3 ∷ 4 ∷ 5 ∷ 6 ∷ 7 ∷ [])) (1 ∷ 2 ∷ 3 ∷ 4 ∷ 5 ∷ 6 ∷ 7 ∷ [])
+    && (sameList (map operatorNumber (Sum ∷ Minimum ∷ Maximum ∷ [])) (0 ∷ 1 ∷ 2 ∷ [])
+    && (sameList (map (λ o. operatorNumber (operatorOf o)) (0 ∷ 1 ∷ 2 ∷ [])) (0 ∷ 1 ∷ 2 ∷ [])
+    && sameList (map registrationNumber (Free ∷ Live ∷ Quiesced ∷ [])) (0 ∷ 1 ∷ 2 ∷ []))))
 
 -- The lines of a walk: the activity, the answer and the steps taken so far, `taken` of them before the first.
 unfoldable pub linesFrom : ℕ → List ℕ → List Answer → List (List ℕ)

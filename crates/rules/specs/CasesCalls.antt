@@ -1,7 +1,7 @@
 -- Cases of our own: whole calls with a state made by hand. What is answered, the whole state returned, the ready set and the sheet.
 use Prim.Native.Nat.{ℕ, _+_, _^_}
 use mathlib.Core.List.{List, [], _∷_, _++_}
-use mathlib.Core.Bool.{Bool, true, false, _&&_}
+use mathlib.Core.Bool.{Bool, true, false, cond, _&&_, not}
 use lib.ListN.{length, replicate}
 use lib.Dec.{eqb}
 use Rattle.rules.specs.declared.state.Fault.the-variants.{F1, F7}
@@ -15,6 +15,7 @@ use Rattle.rules.specs.declared.answer.Answer.{Answer}
 use Rattle.rules.specs.declared.answer.Answer.the-variants.{Accepted, Refused}
 use Rattle.rules.specs.Search.{listFrom}
 use Rattle.rules.specs.State.{noHold, noActivity, noAccumulator}
+use Rattle.rules.specs.Clocks.{quiescent}
 use Rattle.rules.specs.Effects.{withNames, stopped}
 use Rattle.rules.specs.Steps.{base, startState, start, step, ready, registrations, registrationsNumber}
 use Rattle.rules.specs.Runs.{run}
@@ -178,19 +179,52 @@ allShow (c ∷ cs) = let r = allShow cs in shows c && r
 unfoldable pub renamed : List ℕ
 renamed = 0x01 ∷ 0x02 ∷ 0x00 ∷ 0x04 ∷ 0x00 ∷ 0x02 ∷ 0x03 ∷ 0x00 ∷ []
 
+-- Activity 63 on the END of body 1, with clock 3 under name 0 and clock 15 under name 7.
+unfoldable pub cornered : State
+cornered = withCounts 0 64 16 0 (change 63 (λ a. withHold 7 (holdOn 2 15 Quiesced) (withHold 0 (holdOn 1 3 Live) (withStatus Running (onBody (bottom 0 1) a)))) crowded)
+
 unfoldable pub sheets : List Sheet
 sheets =
-    record { table = pair; state = run base pair (0 ∷ 0 ∷ 0 ∷ []); number = 0; rows = (2 ∷ []) ∷ (1 ∷ []) ∷ [] }
+    record { table = pair; state = paired; number = 0; rows = (2 ∷ []) ∷ (1 ∷ []) ∷ [] }
     -- By clock number and not by name.
     ∷ record { table = renamed; state = run base renamed (0 ∷ 0 ∷ 0 ∷ []); number = 0; rows = (0 ∷ 1 ∷ []) ∷ [] }
-    -- The last row and its last entry: clock 15 under the last name, quiesced, beside clock 3 under name 0, live.
+    -- The last row and its last entry.
     ∷ record {
       table = crowd;
-      state = withCounts 0 64 16 0 (change 63 (λ a. withHold 7 (holdOn 2 15 Quiesced) (withHold 0 (holdOn 1 3 Live) (withStatus Running (onBody (bottom 0 1) a)))) crowded);
+      state = cornered;
       number = 0;
       rows = replicate 63 [] ++ ((0 ∷ 0 ∷ 0 ∷ 1 ∷ 0 ∷ 0 ∷ 0 ∷ 0 ∷ 0 ∷ 0 ∷ 0 ∷ 0 ∷ 0 ∷ 0 ∷ 0 ∷ 2 ∷ []) ∷ []);
     }
     -- "a standing sheet of zeros"
     ∷ record { table = pair; state = withCounts 9 2 1 0 paired; number = 13; rows = [] }
     ∷ record { table = 0x01 ∷ 0x11 ∷ []; state = paired; number = 3; rows = [] }
+    ∷ []
+
+-- QUIESCENT PHASES
+
+-- A clock of a state, and whether each of its phases from 0 on is quiescent.
+pub record Quiet : Type 0 where
+  pub state : State
+  pub clock : ℕ
+  pub phases : List Bool
+
+unfoldable pub quietFrom : State → ℕ → ℕ → List Bool → Bool
+quietFrom s c p [] = true
+quietFrom s c p (q ∷ qs) = let r = quietFrom s c (p + 1) qs in cond q (quiescent s c p) (not (quiescent s c p)) && r
+
+unfoldable pub allQuiet : List Quiet → Bool
+allQuiet [] = true
+allQuiet (c ∷ cs) = let r = allQuiet cs in quietFrom (c .state) (c .clock) 0 (c .phases) && r
+
+-- "Phase p of a clock is quiescent when no holder is in an earlier phase, or live in p."
+unfoldable pub quiets : List Quiet
+quiets =
+    -- Live in 0; quiesced in 0, the other too; one in 1 and one quiesced in 0.
+    record { state = paired; clock = 0; phases = false ∷ false ∷ [] }
+    ∷ record { state = change 1 (withHold 0 (holdOn 0 0 Quiesced)) paired; clock = 0; phases = true ∷ false ∷ [] }
+    ∷ record { state = change 1 (withHold 0 (holdOn 0 0 Quiesced)) (change 0 (withHold 0 (holdOn 1 0 Live)) paired); clock = 0; phases = true ∷ false ∷ false ∷ [] }
+    -- The last activity's clocks, and one that nobody holds.
+    ∷ record { state = cornered; clock = 3; phases = true ∷ false ∷ false ∷ [] }
+    ∷ record { state = cornered; clock = 15; phases = true ∷ true ∷ true ∷ false ∷ [] }
+    ∷ record { state = cornered; clock = 1; phases = true ∷ true ∷ [] }
     ∷ []

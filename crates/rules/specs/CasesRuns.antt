@@ -70,6 +70,9 @@ twoClocks = 0x01 ∷ 0x02 ∷ 0x02 ∷ 0x02 ∷ 0x05 ∷ 0x03 ∷ 0x05 ∷ 0x04 
 abbrev lending : ℕ → List ℕ
 lending m = 0x02 ∷ 0x02 ∷ 0x01 ∷ 0x02 ∷ 0x04 ∷ 0x05 ∷ 0x01 ∷ m ∷ 0x01 ∷ 0x00 ∷ 0x01 ∷ 0x00 ∷ []
 
+abbrev resumed : List ℕ
+resumed = 0x01 ∷ 0x02 ∷ 0x02 ∷ 0x03 ∷ 0x02 ∷ 0x03 ∷ 0x02 ∷ 0x01 ∷ 0x00 ∷ []
+
 unfoldable pub renaming : List Run
 renaming =
     -- ACC, OFFER, READ and RESET under names 3 and 7: ACC 3 0, ACC 7 2, PUT 5, OFFER 7, PUT 7, OFFER 3, OFFER 3, READ 7, STORE 4, READ 3, STORE 2, PUT 2,
@@ -137,6 +140,43 @@ renaming =
           ∷ activity Running 0 0 (bottom 0 1 ∷ []) (free 1 ++ (holdOn 0 0 Live ∷ [])) []
           ∷ [])
           [];
+    }
+    -- A clock under the last name: main waits for the child that holds it under the same.
+    ∷ record {
+      table = 0x02 ∷ 0x02 ∷ 0x07 ∷ 0x05 ∷ 0x01 ∷ 0x80 ∷ 0x01 ∷ 0x00 ∷ 0x01 ∷ 0x00 ∷ [];
+      order = 0 ∷ 0 ∷ 0 ∷ 0 ∷ [];
+      answers = running ∷ running ∷ atBarrier ∷ waits ∷ [];
+      after =
+        written 3 1 []
+        (activity AtBarrier 0 0 (bottom 5 0 ∷ []) (free 7 ++ (holdOn 0 0 Quiesced ∷ [])) []
+        ∷ activity Running 0 0 (bottom 0 1 ∷ []) (free 7 ++ (holdOn 0 0 Live ∷ [])) []
+        ∷ [])
+        [];
+    }
+    -- Nobody waits on a clock that it does not hold: CLOCK 1, CLOCK 4, ASYNC 1 2, DROP 1, NEXT.
+    ∷ record {
+      table = 0x02 ∷ 0x02 ∷ 0x01 ∷ 0x02 ∷ 0x04 ∷ 0x05 ∷ 0x01 ∷ 0x02 ∷ 0x04 ∷ 0x01 ∷ 0x01 ∷ 0x00 ∷ 0x01 ∷ 0x00 ∷ [];
+      order = replicate 6 0;
+      answers = replicate 4 running ++ (atBarrier ∷ running ∷ []);
+      after =
+        written 6 2 []
+        (activity Running 0 0 (bottom 10 0 ∷ []) (free 4 ++ (holdOn 1 1 Live ∷ [])) []
+        ∷ activity Running 0 0 (bottom 0 1 ∷ []) (free 1 ++ (holdOn 0 0 Live ∷ [])) []
+        ∷ [])
+        [];
+    }
+    -- "RESUME c: quiesce on c; again changes nothing": CLOCK 2, RESUME 2, RESUME 2; then NEXT.
+    ∷ record {
+      table = resumed;
+      order = replicate 4 0;
+      answers = running ∷ running ∷ running ∷ atBarrier ∷ [];
+      after = written 4 1 [] (activity AtBarrier 0 0 (bottom 6 0 ∷ []) (free 2 ++ (holdOn 0 0 Quiesced ∷ [])) [] ∷ []) [];
+    }
+    ∷ record {
+      table = resumed;
+      order = replicate 5 0;
+      answers = running ∷ running ∷ running ∷ atBarrier ∷ running ∷ [];
+      after = written 5 1 [] (activity Running 0 0 (bottom 7 0 ∷ []) (free 2 ++ (holdOn 1 0 Live ∷ [])) [] ∷ []) [];
     }
     ∷ []
 
@@ -263,9 +303,9 @@ reading op =
           (holding 0 Sum 0 ∷ []);
     }
 
--- ASYNC 3 0, REPEAT 2 of FINISH of ASYNC 3 0; body 3 a bare END.
+-- ASYNC 3 0, REPEAT 3 of FINISH of ASYNC 3 0; body 3 a bare END.
 abbrev finishes : List ℕ
-finishes = 0x04 ∷ 0x05 ∷ 0x03 ∷ 0x00 ∷ 0x07 ∷ 0x02 ∷ 0x01 ∷ 0x00 ∷ 0x06 ∷ 0x02 ∷ 0x00 ∷ 0x05 ∷ 0x03 ∷ 0x00 ∷ 0x00 ∷ 0x00 ∷ []
+finishes = 0x04 ∷ 0x05 ∷ 0x03 ∷ 0x00 ∷ 0x07 ∷ 0x03 ∷ 0x01 ∷ 0x00 ∷ 0x06 ∷ 0x02 ∷ 0x00 ∷ 0x05 ∷ 0x03 ∷ 0x00 ∷ 0x00 ∷ 0x00 ∷ []
 
 unfoldable pub affected : List Run
 affected =
@@ -310,7 +350,8 @@ affected =
           ∷ [])
           (holding 4294967295 Minimum 0 ∷ []);
     }
-    -- A child's own ACC on a name that it got, and its READ: main ACC 1 0, ASYNC; the child PUT 6, OFFER 1, ACC 1 1, OFFER 1, ACC 5 2, READ 5, READ 1.
+    -- A child's own ACC on a name that it got, its READ and its RESET: main ACC 1 0, ASYNC; the child PUT 6, OFFER 1, ACC 1 1, OFFER 1, ACC 5 2, READ 5, READ 1,
+    -- RESET 5.
     ∷ record {
       table = 0x02 ∷ 0x08 ∷ 0x01 ∷ 0x00 ∷ 0x05 ∷ 0x01 ∷ 0x00 ∷ 0x00 ∷ 0x0C ∷ 0x06 ∷ 0x00 ∷ 0x00 ∷ 0x00 ∷ 0x09 ∷ 0x01 ∷ 0x08 ∷ 0x01 ∷ 0x01 ∷ 0x09 ∷ 0x01 ∷ 0x08 ∷ 0x05 ∷ 0x02
           ∷ 0x0A ∷ 0x05 ∷ 0x0A ∷ 0x01 ∷ 0x00 ∷ [];
@@ -348,7 +389,7 @@ affected =
       answers = running ∷ running ∷ running ∷ running ∷ waits ∷ [];
       after =
           written 4 0 []
-          (activity Running 0 0 (bottom 3 0 ∷ frameAt 0 1 2 0 ∷ frameAt 3 2 0 2 ∷ []) [] []
+          (activity Running 0 0 (bottom 3 0 ∷ frameAt 0 1 3 0 ∷ frameAt 3 2 0 2 ∷ []) [] []
           ∷ activity Running 0 0 (bottom 0 3 ∷ []) [] []
           ∷ activity Running 0 0 (bottom 0 3 ∷ []) [] []
           ∷ [])
@@ -361,7 +402,7 @@ affected =
       answers = running ∷ running ∷ running ∷ running ∷ ended ∷ running ∷ [];
       after =
           written 6 0 []
-          (activity Running 0 0 (bottom 3 0 ∷ frameAt 2 1 2 0 ∷ []) [] [] ∷ activity Running 0 0 (bottom 0 3 ∷ []) [] [] ∷ activity Ended 0 0 [] [] [] ∷ [])
+          (activity Running 0 0 (bottom 3 0 ∷ frameAt 2 1 3 0 ∷ []) [] [] ∷ activity Running 0 0 (bottom 0 3 ∷ []) [] [] ∷ activity Ended 0 0 [] [] [] ∷ [])
           [];
     }
     ∷ record {
@@ -370,10 +411,32 @@ affected =
       answers = running ∷ running ∷ running ∷ running ∷ ended ∷ running ∷ running ∷ running ∷ [];
       after =
           written 8 0 []
-          (activity Running 0 0 (bottom 3 0 ∷ frameAt 0 1 1 0 ∷ frameAt 0 2 0 3 ∷ []) [] []
+          (activity Running 0 0 (bottom 3 0 ∷ frameAt 0 1 2 0 ∷ frameAt 0 2 0 3 ∷ []) [] []
           ∷ activity Running 0 0 (bottom 0 3 ∷ []) [] []
           ∷ activity Ended 0 0 [] [] []
           ∷ [])
           [];
+    }
+    -- A finish whose owner is no main: main ASYNC 1 0; the child FINISH of ASYNC 3 0.
+    ∷ record {
+      table = 0x04 ∷ 0x05 ∷ 0x01 ∷ 0x00 ∷ 0x00 ∷ 0x06 ∷ 0x02 ∷ 0x00 ∷ 0x05 ∷ 0x03 ∷ 0x00 ∷ 0x00 ∷ 0x00 ∷ [];
+      order = 0 ∷ 1 ∷ 1 ∷ 1 ∷ 2 ∷ 1 ∷ [];
+      answers = running ∷ running ∷ running ∷ waits ∷ ended ∷ running ∷ [];
+      after =
+        written 5 0 []
+        (activity Running 0 0 (bottom 3 0 ∷ []) [] [] ∷ activity Running 0 0 (bottom 2 1 ∷ []) [] [] ∷ activity Ended 1 0 [] [] [] ∷ [])
+        [];
+    }
+    -- Nothing else waits for who is inside: in a FINISH body ASYNC 2 0, PUT 5, CLOCK 1, RESUME 1, DROP 1, ACC 1 0, OFFER 1, STORE 1, FETCH 1, ADD 1, ATOM 1 of ADD 2,
+    -- NEXT, REPEAT 0 2, REPEAT 1 2 and its END, FINISH 2 and its END; only then the END waits.
+    ∷ record {
+      table = 0x03 ∷ 0x06 ∷ 0x01 ∷ 0x00 ∷ 0x05 ∷ 0x02 ∷ 0x00 ∷ 0x0C ∷ 0x05 ∷ 0x00 ∷ 0x00 ∷ 0x00 ∷ 0x02 ∷ 0x01 ∷ 0x03 ∷ 0x01 ∷ 0x04 ∷ 0x01 ∷ 0x08 ∷ 0x01 ∷ 0x00 ∷ 0x09 ∷ 0x01 ∷ 0x0E ∷ 0x01
+      ∷ 0x0D ∷ 0x01 ∷ 0x0F ∷ 0x01 ∷ 0x10 ∷ 0x01 ∷ 0x0F ∷ 0x02 ∷ 0x01 ∷ 0x07 ∷ 0x00 ∷ 0x02 ∷ 0x07 ∷ 0x01 ∷ 0x02 ∷ 0x06 ∷ 0x02 ∷ 0x00 ∷ 0x00 ∷ [];
+      order = replicate 20 0;
+      answers = replicate 12 running ++ (atBarrier ∷ replicate 6 running ++ (waits ∷ []));
+      after =
+        written 19 1 (0 ∷ 10 ∷ 5 ∷ [])
+        (activity Running 0 5 (bottom 0 0 ∷ frameAt 38 1 0 1 ∷ []) [] (0 ∷ 1 ∷ []) ∷ activity Running 0 0 (bottom 0 2 ∷ []) [] [] ∷ [])
+        (holding 5 Sum 0 ∷ []);
     }
     ∷ []

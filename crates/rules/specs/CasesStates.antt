@@ -12,7 +12,7 @@ use Rattle.rules.specs.declared.state.Activity.{Activity}
 use Rattle.rules.specs.declared.state.State.{State}
 use Rattle.rules.specs.State.{answerNumber, noFrame, noFrames, noHolds}
 use Rattle.rules.specs.Effects.{withFrames, withHolds, withRegister, withNames, stopped}
-use Rattle.rules.specs.Steps.{base, startState, step, ready}
+use Rattle.rules.specs.Steps.{base, startState, step, registrationsNumber}
 use Rattle.rules.specs.Written.{frameAt, bottom, holdOn, holding, withFrame, onBody, withHold, withStatus, withSpawner, withCounts, change, changeAcc, nest, nested, pair, paired, crowd, crowded, deep, deepest, atom, standing}
 
 -- A fit state, and states in each of which a single clause is broken.
@@ -27,7 +27,7 @@ allUnfit t (s ∷ ss) = let r = allUnfit t ss in eqb (answerNumber (step base t 
 
 -- The first is not turned down, the others are, with 13.
 unfoldable pub breaks : Broken → Bool
-breaks c = eqb (ready base (c .table) (c .fit) .number) 0 && allUnfit (c .table) (c .unfit)
+breaks c = eqb (registrationsNumber base (c .table) (c .fit)) 0 && allUnfit (c .table) (c .unfit)
 
 unfoldable pub allBreak : List Broken → Bool
 allBreak [] = true
@@ -37,65 +37,95 @@ allBreak (c ∷ cs) = let r = allBreak cs in breaks c && r
 abbrev changed : List ℕ → State → List (State → State) → Broken
 changed table s changes = record { table = table; fit = s; unfit = map (λ (f : State → State). f s) changes }
 
--- A single activity changed: main of `nested`, the child of `paired`.
-abbrev inNest : (Activity → Activity) → Broken
-inNest f = changed nest nested (change 0 f ∷ [])
-
-abbrev inPair : (Activity → Activity) → (Activity → Activity) → Broken
-inPair f g = record { table = pair; fit = change 1 f paired; unfit = change 1 g paired ∷ [] }
+-- Two states that differ in one number, the first fit.
+abbrev apart : List ℕ → State → State → Broken
+apart table fit unfit = record { table = table; fit = fit; unfit = unfit ∷ [] }
 
 abbrev pub same : Activity → Activity
 same a = a
 
+-- CLAUSE BY CLAUSE
+
 unfoldable pub broken : List Broken
 broken =
     -- "a count .. is over its limit (..)": activities, clocks, accumulators, the bodies of a stack
-    record { table = crowd; fit = crowded; unfit = withCounts 0 65 0 0 crowded ∷ [] }
-    ∷ record { table = nest; fit = withCounts 2 1 16 0 nested; unfit = withCounts 2 1 17 0 nested ∷ [] }
-    ∷ record { table = nest; fit = withCounts 2 1 0 16 nested; unfit = withCounts 2 1 0 17 nested ∷ [] }
-    ∷ record { table = deep; fit = deepest 16; unfit = deepest 17 ∷ [] }
+    apart crowd crowded (withCounts 0 65 0 0 crowded)
+    ∷ apart nest (withCounts 2 1 16 0 nested) (withCounts 2 1 17 0 nested)
+    ∷ apart nest (withCounts 2 1 0 16 nested) (withCounts 2 1 0 17 nested)
+    ∷ apart deep (deepest 16) (deepest 17)
     -- ".. or phase is over its limit (phases 65,535)"
-    ∷ inPair (withHold 0 (holdOn 65535 0 Live)) (withHold 0 (holdOn 65536 0 Live))
+    ∷ apart pair (change 1 (withHold 0 (holdOn 65535 0 Live)) paired) (change 1 (withHold 0 (holdOn 65536 0 Live)) paired)
     -- "steps taken exceed the work"
-    ∷ record { table = nest; fit = withCounts 6 1 0 0 nested; unfit = withCounts 7 1 0 0 nested ∷ [] }
-    -- "a repeat has 0 runs left or more than its n"
-    ∷ inNest (withFrame 2 (frameAt 0 2 0 0))
-    ∷ inNest (withFrame 2 (frameAt 0 2 3 0))
+    ∷ apart nest (withCounts 6 1 0 0 nested) (withCounts 7 1 0 0 nested)
     -- "a place is no command of its body (the k commands belong to their ATOM)"
-    ∷ record { table = atom; fit = standing 4; unfit = standing 2 ∷ [] }
-    ∷ record { table = atom; fit = standing 0; unfit = standing 1 ∷ change 0 (withFrame 0 (bottom 0 1)) startState ∷ [] }
+    ∷ apart atom (standing 4) (standing 2)
+    ∷ changed atom (standing 0) ((λ s. standing 1) ∷ change 0 (withFrame 0 (bottom 0 1)) ∷ [])
     -- "an unended activity has no body"
-    ∷ inNest (λ a. withFrames a 0 noFrames)
-    ∷ inPair (λ a. stopped a Ended) (λ a. withHolds (withFrames a 0 noFrames) Running noHolds)
+    ∷ apart pair (change 1 (λ a. stopped a Ended) paired) (change 1 (λ a. stopped a Running) paired)
     -- "an ended one has a body or a clock"; a faulted one too
-    ∷ inNest (withStatus Ended)
-    ∷ inPair (λ a. stopped a (Faulted F1)) (λ a. withHolds a (Faulted F1) noHolds)
-    ∷ inPair (λ a. stopped a Ended) (λ a. withStatus Ended (withFrames a 0 noFrames))
-    -- "a stacked body is not the one run by the FINISH or REPEAT of the body below it"; below stands neither
-    ∷ inNest (λ a. withFrames a 2 (frameAt 0 0 0 0 ∷ frameAt 0 2 0 1 ∷ replicate 14 noFrame))
-    ∷ inNest (λ a. withFrames a 2 (frameAt 2 0 0 0 ∷ frameAt 0 1 0 1 ∷ replicate 14 noFrame))
-    -- "stacked bodies do not rise": in an accepted table a command runs only greater bodies, so this breaks with the clause above
-    ∷ inNest (λ a. withFrames a 2 (frameAt 0 0 0 0 ∷ frameAt 0 0 0 1 ∷ replicate 14 noFrame))
-    -- "one activity has two names for one clock"
-    ∷ inPair same (withHold 1 (holdOn 0 0 Live))
-    -- "a standing at a meeting is not on NEXT"
-    ∷ inNest (withStatus AtBarrier)
-    -- "a spawner is not lower than its child"
-    ∷ inPair same (withSpawner 1)
-    -- "an unmade thing is named": a clock, an accumulator, an activity as owner and as the first inside a finish
-    ∷ inPair same (withHold 0 (holdOn 0 1 Live))
-    ∷ inNest (λ a. withNames a (1 ∷ replicate 7 0))
-    ∷ record { table = pair; fit = withCounts 3 2 1 1 (changeAcc 0 (holding 0 Sum 1) paired); unfit = withCounts 3 2 1 1 (changeAcc 0 (holding 0 Sum 2) paired) ∷ [] }
-    ∷ inNest (withFrame 1 (frameAt 0 1 0 2))
-    -- "an unused entry is not 0": of a name, of a stack, of a frame, main's spawner
-    ∷ inPair same (withHold 1 (holdOn 1 0 Free))
-    ∷ inPair same (withFrame 1 (frameAt 0 1 0 0))
-    ∷ inNest (withFrame 0 (frameAt 0 0 1 0))
-    ∷ inNest (withFrame 0 (frameAt 0 0 0 1))
-    ∷ inNest (withFrame 1 (frameAt 0 1 1 1))
-    ∷ inNest (withFrame 2 (frameAt 0 2 2 1))
-    ∷ inNest (withSpawner 1)
+    ∷ apart pair (change 1 (λ a. stopped a (Faulted F1)) paired) (change 1 (λ a. withHolds a (Faulted F1) noHolds) paired)
+    ∷ apart pair (change 1 (λ a. stopped a Ended) paired) (change 1 (λ a. withStatus Ended (withFrames a 0 noFrames)) paired)
+    -- "an unmade thing is named": an activity as an accumulator's owner
+    ∷ apart pair (withCounts 3 2 1 1 (changeAcc 0 (holding 0 Sum 1) paired)) (withCounts 3 2 1 1 (changeAcc 0 (holding 0 Sum 2) paired))
+    ∷ apart pair (withCounts 3 2 1 16 (changeAcc 15 (holding 7 Maximum 1) paired)) (withCounts 3 2 1 16 (changeAcc 15 (holding 7 Maximum 2) paired))
     ∷ []
+
+-- Main in a REPEAT body of a FINISH body.
+unfoldable pub stacked : Broken
+stacked =
+    changed nest nested
+    -- "a repeat has 0 runs left or more than its n"
+    (change 0 (withFrame 2 (frameAt 0 2 0 0))
+    ∷ change 0 (withFrame 2 (frameAt 0 2 3 0))
+    -- "an unended activity has no body", "an ended one has a body"
+    ∷ change 0 (λ a. withFrames a 0 noFrames)
+    ∷ change 0 (withStatus Ended)
+    -- "a stacked body is not the one run by the FINISH or REPEAT of the body below it"; below stands neither
+    ∷ change 0 (λ a. withFrames a 2 (frameAt 0 0 0 0 ∷ frameAt 0 2 0 1 ∷ replicate 14 noFrame))
+    ∷ change 0 (λ a. withFrames a 2 (frameAt 2 0 0 0 ∷ frameAt 0 1 0 1 ∷ replicate 14 noFrame))
+    -- "stacked bodies do not rise": in an accepted table a command runs only greater bodies, so this breaks with the clause above
+    ∷ change 0 (λ a. withFrames a 2 (frameAt 0 0 0 0 ∷ frameAt 0 0 0 1 ∷ replicate 14 noFrame))
+    -- "a standing at a meeting is not on NEXT"
+    ∷ change 0 (withStatus AtBarrier)
+    -- "an unmade thing is named": an accumulator, and an activity as the first inside a finish
+    ∷ change 0 (λ a. withNames a (1 ∷ replicate 7 0))
+    ∷ change 0 (withFrame 1 (frameAt 0 1 0 2))
+    -- "an unused entry is not 0": the runs and `first` of a frame that has none, main's spawner
+    ∷ change 0 (withFrame 0 (frameAt 0 0 1 0))
+    ∷ change 0 (withFrame 0 (frameAt 0 0 0 1))
+    ∷ change 0 (withFrame 1 (frameAt 0 1 1 1))
+    ∷ change 0 (withFrame 2 (frameAt 0 2 2 1))
+    ∷ change 0 (withSpawner 1)
+    ∷ [])
+
+-- A body above each command that runs none: NEXT, CLOCK 1, RESUME 1, DROP 1, ASYNC 1 0, ACC 1 0, OFFER 1, READ 1, RESET 1, PUT 0, FETCH 1, STORE 1, ADD 1, ATOM 1 of
+-- FETCH 1, END; and the body of FINISH 1 above REPEAT 2 1.
+unfoldable pub every : List ℕ
+every =
+    0x02 ∷ 0x01 ∷ 0x02 ∷ 0x01 ∷ 0x03 ∷ 0x01 ∷ 0x04 ∷ 0x01 ∷ 0x05 ∷ 0x01 ∷ 0x00 ∷ 0x08 ∷ 0x01 ∷ 0x00 ∷ 0x09 ∷ 0x01 ∷ 0x0A ∷ 0x01 ∷ 0x0B ∷ 0x01 ∷ 0x0C ∷ 0x00 ∷ 0x00 ∷ 0x00 ∷ 0x00 ∷ 0x0D ∷ 0x01
+    ∷ 0x0E ∷ 0x01 ∷ 0x0F ∷ 0x01 ∷ 0x10 ∷ 0x01 ∷ 0x0D ∷ 0x01 ∷ 0x06 ∷ 0x01 ∷ 0x07 ∷ 0x02 ∷ 0x01 ∷ 0x00 ∷ 0x00 ∷ []
+
+abbrev above : ℕ → State
+above offset = change 0 (λ a. withFrames a 2 (bottom offset 0 ∷ frameAt 0 1 0 1 ∷ replicate 14 noFrame)) startState
+
+unfoldable pub unrun : Broken
+unrun =
+    record {
+      table = every;
+      fit = above 34;
+      unfit = map above (0 ∷ 1 ∷ 3 ∷ 5 ∷ 7 ∷ 10 ∷ 13 ∷ 15 ∷ 17 ∷ 19 ∷ 24 ∷ 26 ∷ 28 ∷ 30 ∷ 36 ∷ 39 ∷ []);
+    }
+
+-- Sixteen bodies: the last.
+unfoldable pub highest : Broken
+highest =
+    changed deep (deepest 16)
+    (change 0 (withFrame 15 (frameAt 1 15 1 0))
+    ∷ change 0 (withFrame 15 (frameAt 0 15 0 0))
+    ∷ change 0 (withFrame 15 (frameAt 0 15 2 0))
+    ∷ change 0 (withFrame 15 (frameAt 0 15 1 1))
+    ∷ change 0 (withFrame 15 (frameAt 0 14 1 0))
+    ∷ [])
 
 -- EVERY UNUSED ENTRY
 
@@ -167,19 +197,9 @@ breaking i =
     ∷ change i (withSpawner i)
     ∷ []
 
--- The child of `paired`; and activity 63, on the END of body 1, where a status at a meeting is not on NEXT.
-unfoldable pub spawned : List Broken
-spawned =
-    changed pair (withCounts 3 2 3 2 (change 1 (λ a. owning (withHold 0 (holdOn 0 0 Live) a)) paired)) (breaking 1)
-    ∷ changed crowd (withCounts 0 64 3 2 (change 63 (λ a. owning (withStatus Running (onBody (bottom 0 1) a))) crowded)) (change 63 (withStatus AtBarrier) ∷ breaking 63)
-    -- the last body of sixteen
-    ∷ changed deep (deepest 16)
-    (change 0 (withFrame 15 (frameAt 1 15 1 0))
-    ∷ change 0 (withFrame 15 (frameAt 0 15 0 0))
-    ∷ change 0 (withFrame 15 (frameAt 0 15 2 0))
-    ∷ change 0 (withFrame 15 (frameAt 0 15 1 1))
-    ∷ change 0 (withFrame 15 (frameAt 0 14 1 0))
-    ∷ [])
-    -- the last accumulator's owner
-    ∷ record { table = pair; fit = withCounts 3 2 1 16 (changeAcc 15 (holding 7 Maximum 1) paired); unfit = withCounts 3 2 1 16 (changeAcc 15 (holding 7 Maximum 2) paired) ∷ [] }
-    ∷ []
+-- The child of `paired`; and activity 63, on the END of body 1, where a standing at a meeting is not on NEXT.
+unfoldable pub spawned : Broken
+spawned = changed pair (withCounts 3 2 3 2 (change 1 owning paired)) (change 1 (withHold 7 (holdOn 0 0 Live)) ∷ breaking 1)
+
+unfoldable pub last : Broken
+last = changed crowd (withCounts 0 64 3 2 (change 63 (λ a. owning (withStatus Running (onBody (bottom 0 1) a))) crowded)) (change 63 (withStatus AtBarrier) ∷ breaking 63)
