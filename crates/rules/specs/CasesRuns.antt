@@ -147,11 +147,11 @@ renaming =
       order = 0 ∷ 0 ∷ 0 ∷ 0 ∷ [];
       answers = running ∷ running ∷ atBarrier ∷ waits ∷ [];
       after =
-        written 3 1 []
-        (activity AtBarrier 0 0 (bottom 5 0 ∷ []) (free 7 ++ (holdOn 0 0 Quiesced ∷ [])) []
-        ∷ activity Running 0 0 (bottom 0 1 ∷ []) (free 7 ++ (holdOn 0 0 Live ∷ [])) []
-        ∷ [])
-        [];
+          written 3 1 []
+          (activity AtBarrier 0 0 (bottom 5 0 ∷ []) (free 7 ++ (holdOn 0 0 Quiesced ∷ [])) []
+          ∷ activity Running 0 0 (bottom 0 1 ∷ []) (free 7 ++ (holdOn 0 0 Live ∷ [])) []
+          ∷ [])
+          [];
     }
     -- Nobody waits on a clock that it does not hold: CLOCK 1, CLOCK 4, ASYNC 1 2, DROP 1, NEXT.
     ∷ record {
@@ -159,11 +159,11 @@ renaming =
       order = replicate 6 0;
       answers = replicate 4 running ++ (atBarrier ∷ running ∷ []);
       after =
-        written 6 2 []
-        (activity Running 0 0 (bottom 10 0 ∷ []) (free 4 ++ (holdOn 1 1 Live ∷ [])) []
-        ∷ activity Running 0 0 (bottom 0 1 ∷ []) (free 1 ++ (holdOn 0 0 Live ∷ [])) []
-        ∷ [])
-        [];
+          written 6 2 []
+          (activity Running 0 0 (bottom 10 0 ∷ []) (free 4 ++ (holdOn 1 1 Live ∷ [])) []
+          ∷ activity Running 0 0 (bottom 0 1 ∷ []) (free 1 ++ (holdOn 0 0 Live ∷ [])) []
+          ∷ [])
+          [];
     }
     -- "RESUME c: quiesce on c; again changes nothing": CLOCK 2, RESUME 2, RESUME 2; then NEXT.
     ∷ record {
@@ -235,6 +235,13 @@ faulting =
     -- F7 by a quiesced clock under the last name: READ, RESET.
     ∷ breach (quiescedReader 0x0A) 3 F7 quiescedReads
     ∷ breach (quiescedReader 0x0B) 3 F7 quiescedReads
+    -- A fault is who steps' own: the child waits while main stands at RESUME 5, and passes once main has faulted.
+    ∷ record {
+      table = 0x02 ∷ 0x02 ∷ 0x00 ∷ 0x05 ∷ 0x01 ∷ 0x01 ∷ 0x03 ∷ 0x05 ∷ 0x00 ∷ 0x01 ∷ 0x00 ∷ [];
+      order = 0 ∷ 0 ∷ 1 ∷ 1 ∷ 0 ∷ 1 ∷ [];
+      answers = running ∷ running ∷ atBarrier ∷ waits ∷ faulted F1 ∷ running ∷ [];
+      after = written 5 1 [] (activity (Faulted F1) 0 0 [] [] [] ∷ activity Running 0 0 (bottom 1 1 ∷ []) (holdOn 1 0 Live ∷ []) [] ∷ []) [];
+    }
     -- No F3 in a REPEAT body alone: CLOCK 2, REPEAT 2 of ASYNC 2 4.
     ∷ record {
       table = 0x03 ∷ 0x02 ∷ 0x02 ∷ 0x07 ∷ 0x02 ∷ 0x01 ∷ 0x00 ∷ 0x05 ∷ 0x02 ∷ 0x04 ∷ 0x00 ∷ 0x01 ∷ 0x00 ∷ [];
@@ -423,20 +430,36 @@ affected =
       order = 0 ∷ 1 ∷ 1 ∷ 1 ∷ 2 ∷ 1 ∷ [];
       answers = running ∷ running ∷ running ∷ waits ∷ ended ∷ running ∷ [];
       after =
-        written 5 0 []
-        (activity Running 0 0 (bottom 3 0 ∷ []) [] [] ∷ activity Running 0 0 (bottom 2 1 ∷ []) [] [] ∷ activity Ended 1 0 [] [] [] ∷ [])
-        [];
+          written 5 0 []
+          (activity Running 0 0 (bottom 3 0 ∷ []) [] [] ∷ activity Running 0 0 (bottom 2 1 ∷ []) [] [] ∷ activity Ended 1 0 [] [] [] ∷ [])
+          [];
     }
     -- Nothing else waits for who is inside: in a FINISH body ASYNC 2 0, PUT 5, CLOCK 1, RESUME 1, DROP 1, ACC 1 0, OFFER 1, STORE 1, FETCH 1, ADD 1, ATOM 1 of ADD 2,
     -- NEXT, REPEAT 0 2, REPEAT 1 2 and its END, FINISH 2 and its END; only then the END waits.
     ∷ record {
       table = 0x03 ∷ 0x06 ∷ 0x01 ∷ 0x00 ∷ 0x05 ∷ 0x02 ∷ 0x00 ∷ 0x0C ∷ 0x05 ∷ 0x00 ∷ 0x00 ∷ 0x00 ∷ 0x02 ∷ 0x01 ∷ 0x03 ∷ 0x01 ∷ 0x04 ∷ 0x01 ∷ 0x08 ∷ 0x01 ∷ 0x00 ∷ 0x09 ∷ 0x01 ∷ 0x0E ∷ 0x01
-      ∷ 0x0D ∷ 0x01 ∷ 0x0F ∷ 0x01 ∷ 0x10 ∷ 0x01 ∷ 0x0F ∷ 0x02 ∷ 0x01 ∷ 0x07 ∷ 0x00 ∷ 0x02 ∷ 0x07 ∷ 0x01 ∷ 0x02 ∷ 0x06 ∷ 0x02 ∷ 0x00 ∷ 0x00 ∷ [];
+          ∷ 0x0D ∷ 0x01 ∷ 0x0F ∷ 0x01 ∷ 0x10 ∷ 0x01 ∷ 0x0F ∷ 0x02 ∷ 0x01 ∷ 0x07 ∷ 0x00 ∷ 0x02 ∷ 0x07 ∷ 0x01 ∷ 0x02 ∷ 0x06 ∷ 0x02 ∷ 0x00 ∷ 0x00 ∷ [];
       order = replicate 20 0;
       answers = replicate 12 running ++ (atBarrier ∷ replicate 6 running ++ (waits ∷ []));
       after =
-        written 19 1 (0 ∷ 10 ∷ 5 ∷ [])
-        (activity Running 0 5 (bottom 0 0 ∷ frameAt 38 1 0 1 ∷ []) [] (0 ∷ 1 ∷ []) ∷ activity Running 0 0 (bottom 0 2 ∷ []) [] [] ∷ [])
-        (holding 5 Sum 0 ∷ []);
+          written 19 1 (0 ∷ 10 ∷ 5 ∷ [])
+          (activity Running 0 5 (bottom 0 0 ∷ frameAt 38 1 0 1 ∷ []) [] (0 ∷ 1 ∷ []) ∷ activity Running 0 0 (bottom 0 2 ∷ []) [] [] ∷ [])
+          (holding 5 Sum 0 ∷ []);
+    }
+    -- What was stored, offered and reduced before: ACC 1 2, ACC 2 1, PUT 3, OFFER 1, STORE 6, PUT 9, OFFER 2, PUT 7, OFFER 1, OFFER 2, STORE 6.
+    ∷ record {
+      table = 0x01 ∷ 0x08 ∷ 0x01 ∷ 0x02 ∷ 0x08 ∷ 0x02 ∷ 0x01 ∷ 0x0C ∷ 0x03 ∷ 0x00 ∷ 0x00 ∷ 0x00 ∷ 0x09 ∷ 0x01 ∷ 0x0E ∷ 0x06 ∷ 0x0C ∷ 0x09 ∷ 0x00 ∷ 0x00 ∷ 0x00 ∷ 0x09 ∷ 0x02 ∷ 0x0C ∷ 0x07 ∷ 0x00
+          ∷ 0x00 ∷ 0x00 ∷ 0x09 ∷ 0x01 ∷ 0x09 ∷ 0x02 ∷ 0x0E ∷ 0x06 ∷ 0x00 ∷ [];
+      order = replicate 11 0;
+      answers = replicate 11 running;
+      after =
+          written 11 0 (replicate 6 0 ++ (7 ∷ [])) (activity Running 0 7 (bottom 33 0 ∷ []) [] (0 ∷ 1 ∷ 2 ∷ []) ∷ []) (holding 7 Maximum 0 ∷ holding 7 Minimum 0 ∷ []);
+    }
+    -- With sixteen accumulators and sixteen clocks made, what makes none is no 17: REPEAT 16 of ACC 3 0, CLOCK 2, DROP 2; PUT 9, OFFER 3, PUT 4, RESET 3.
+    ∷ record {
+      table = 0x02 ∷ 0x07 ∷ 0x10 ∷ 0x01 ∷ 0x0C ∷ 0x09 ∷ 0x00 ∷ 0x00 ∷ 0x00 ∷ 0x09 ∷ 0x03 ∷ 0x0C ∷ 0x04 ∷ 0x00 ∷ 0x00 ∷ 0x00 ∷ 0x0B ∷ 0x03 ∷ 0x00 ∷ 0x08 ∷ 0x03 ∷ 0x00 ∷ 0x02 ∷ 0x02 ∷ 0x04 ∷ 0x02 ∷ 0x00 ∷ [];
+      order = replicate 69 0;
+      answers = replicate 69 running;
+      after = written 69 16 [] (activity Running 0 4 (bottom 17 0 ∷ []) [] (0 ∷ 0 ∷ 0 ∷ 16 ∷ []) ∷ []) (replicate 15 (holding 0 Sum 0) ++ (holding 4 Sum 0 ∷ []));
     }
     ∷ []

@@ -10,7 +10,7 @@ use Rattle.rules.specs.declared.state.Registration.the-variants.{Free, L
 use Rattle.rules.specs.declared.state.Operator.the-variants.{Sum, Minimum, Maximum}
 use Rattle.rules.specs.declared.state.Activity.{Activity}
 use Rattle.rules.specs.declared.state.State.{State}
-use Rattle.rules.specs.State.{answerNumber, noFrame, noFrames, noHolds}
+use Rattle.rules.specs.State.{answerNumber, noFrame, noFrames, noHold, noHolds}
 use Rattle.rules.specs.Effects.{withFrames, withHolds, withRegister, withNames, stopped}
 use Rattle.rules.specs.Steps.{base, startState, step, registrationsNumber}
 use Rattle.rules.specs.Written.{frameAt, bottom, holdOn, holding, withFrame, onBody, withHold, withStatus, withSpawner, withCounts, change, changeAcc, nest, nested, pair, paired, crowd, crowded, deep, deepest, atom, standing}
@@ -125,6 +125,7 @@ highest =
     ∷ change 0 (withFrame 15 (frameAt 0 15 2 0))
     ∷ change 0 (withFrame 15 (frameAt 0 15 1 1))
     ∷ change 0 (withFrame 15 (frameAt 0 14 1 0))
+    ∷ change 0 (λ a. withFrame 14 (frameAt 0 15 1 0) (withFrame 15 noFrame (withFrames a 15 (a .frames))))
     ∷ [])
 
 -- EVERY UNUSED ENTRY
@@ -162,7 +163,8 @@ unmade =
 
 -- A SPAWNED ACTIVITY'S NAMES AND STACK
 
--- What number i may break alone where three clocks and two accumulators are made. It holds clock 1 under name 2 and has accumulator 1 under name 7.
+-- An activity that holds clock 1 under name 2 and has accumulator 1 under name 7; and what may break in activity i alone, where three clocks and two accumulators are
+-- made.
 abbrev owning : Activity → Activity
 owning a = withNames (withHold 2 (holdOn 3 1 Live) a) (set (replicate 8 0) 7 2)
 
@@ -197,9 +199,9 @@ breaking i =
     ∷ change i (withSpawner i)
     ∷ []
 
--- The child of `paired`; and activity 63, on the END of body 1, where a standing at a meeting is not on NEXT.
+-- The child of `paired`, with clock 0 under name 4; and activity 63, on the END of body 1, where a standing at a meeting is not on NEXT.
 unfoldable pub spawned : Broken
-spawned = changed pair (withCounts 3 2 3 2 (change 1 owning paired)) (change 1 (withHold 7 (holdOn 0 0 Live)) ∷ breaking 1)
+spawned = changed pair (withCounts 3 2 3 2 (change 1 (λ a. owning (withHold 4 (holdOn 0 0 Live) (withHold 0 noHold a))) paired)) (change 1 (withHold 7 (holdOn 0 0 Live)) ∷ breaking 1)
 
 unfoldable pub last : Broken
 last = changed crowd (withCounts 0 64 3 2 (change 63 (λ a. owning (withStatus Running (onBody (bottom 0 1) a))) crowded)) (change 63 (withStatus AtBarrier) ∷ breaking 63)
