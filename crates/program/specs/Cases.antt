@@ -199,10 +199,13 @@ unfoldable pub spelt : List Command → List ℕ
 spelt [] = []
 spelt (c ∷ cs) = opcode c ∷ operandsOf c ++ spelt cs
 
+abbrev readBack : List ℕ → Bool
+readBack t = sameList (spelt (commandsOf t)) (drop 1 t)
+
 -- They are the bytes that were read; the bytes of each command byte, and of one that is no command; the first four of a list.
 unfoldable pub spells : Bool
 spells =
-    sameList (spelt (commandsOf everyCommand)) (drop 1 everyCommand)
+    (readBack everyCommand && readBack (0x01 ∷ 0x0C ∷ 0xFF ∷ 0xFF ∷ 0xFF ∷ 0xFF ∷ 0x00 ∷ []))
     && (sameList (map width (commandsOf everyCommand)) (map (λ c. length (operandsOf c) + 1) (commandsOf everyCommand))
     && (sameList (map widthAt (0 ∷ 1 ∷ 2 ∷ 3 ∷ 4 ∷ 5 ∷ 6 ∷ 7 ∷ 8 ∷ 9 ∷ 10 ∷ 11 ∷ 12 ∷ 13 ∷ 14 ∷ 15 ∷ 16 ∷ 17 ∷ 255 ∷ []))
     (1 ∷ 1 ∷ 2 ∷ 2 ∷ 2 ∷ 3 ∷ 2 ∷ 3 ∷ 3 ∷ 2 ∷ 2 ∷ 2 ∷ 5 ∷ 2 ∷ 2 ∷ 2 ∷ 2 ∷ 1 ∷ 1 ∷ [])

@@ -1,8 +1,12 @@
--- Whether two lists are the same: what cases are compared with.
+-- Whether two tests or two lists are the same: what cases are compared with.
 use Prim.Native.Nat.{ℕ}
 use mathlib.Core.List.{List, [], _∷_}
-use mathlib.Core.Bool.{Bool, true, false, _&&_}
+use mathlib.Core.Bool.{Bool, true, false, _&&_, not}
 use lib.Dec.{eqb}
+
+abbrev pub sameBool : Bool → Bool → Bool
+sameBool true y = y
+sameBool false y = not y
 
 unfoldable pub sameList : List ℕ → List ℕ → Bool
 sameList [] [] = true

@@ -23,11 +23,11 @@ use Rattle.rules.specs.CasesStates.{allUnfit, breaks, allBreak, broken, 
 use Rattle.rules.specs.CasesCalls.{startsSo, allStart, started, answersSo, allSo, reader, reading, lined, finish, handMade, rowsBegin, shows, allShow, renamed, cornered, sheets, quietFrom, allQuiet, quiets}
 use Rattle.rules.specs.CasesRuns.{goes, goesSo, allGo, renaming, faulting, affected}
 use Rattle.rules.specs.CasesValues.{beginsWith, leaves, allLeave, valued}
-use Rattle.rules.specs.Cases.{numbered, accepts, holdsFor, allHold, marked, answersBy, stateBy, answersAs, allAnswer, own, linesFrom, printed, walkPrints}
+use Rattle.rules.specs.Cases.{numbered, hasFault, accepts, holdsFor, allHold, marked, answersBy, stateBy, answersAs, allAnswer, own, linesFrom, printed, walkPrints}
 
 -- To name this on an `unfolding` line is to open the rules and the cases, for computing with them.
 unfoldable pub opened : Bool
-unfolding rows rowAt commandOf rowOf width names named times held isEnd usesCell read readingsAfter readings wholes commandsOf firstBody afterEnd locate bodiesOf programOf from isPlace nameFits atomFits placing leftAfter bodyAfter verdict fitsLength fitsBodies scan sumOver tallyTo tally workOf activitiesOf clocksOf accumulatorsOf overCount numberOf someBelow allBelow countBelow bitsBelow listFrom chain holdsSome isBehind behind quiescent rest here nextOffset finishes inOwnFinish inFinishBody descends inside lendsUnheld lendsQuiesced asyncFault readFault faultFor behindOf unendedBelow unendedInside waitsFor waitsAt past pushed again popped endOf nextOf repeatOf lent child cellAfter touch touchAll effectOf withStores applied isNoActivity runBy isPlaced isBottom isStacked frameFits stackFits bodyFits barrierFits holdFits namesFit spawnerFits activityFits countsFit activitiesFit accumulatorsFit wellFormed at fault waits effect refusal exceeds advance unfit startWith start stepWith step canStep ready registrationOn sheetOf registrationsNumber registrations runFrom answersFrom run answers taken someFault finished sameList numbered accepts holdsFor allHold marked answersBy stateBy answersAs allAnswer own beginsWith leaves allLeave valued activityNumbers sameActivities sharedNumbers sameState activity written withActs withAccs withCounts change changeAcc nest nested pair paired crowd crowded deep deepest atom standing goes goesSo allGo renaming faulting affected allUnfit breaks allBreak broken stacked every unrun highest unmade spawned last startsSo allStart started answersSo allSo reader reading lined finish handMade rowsBegin shows allShow renamed cornered sheets quietFrom allQuiet quiets linesFrom sameLists printed walkPrints
+unfolding rows rowAt commandOf rowOf width names named times held isEnd usesCell read readingsAfter readings wholes commandsOf firstBody afterEnd locate bodiesOf programOf from isPlace nameFits atomFits placing leftAfter bodyAfter verdict fitsLength fitsBodies scan sumOver tallyTo tally workOf activitiesOf clocksOf accumulatorsOf overCount numberOf someBelow allBelow countBelow bitsBelow listFrom chain holdsSome isBehind behind quiescent rest here nextOffset finishes inOwnFinish inFinishBody descends inside lendsUnheld lendsQuiesced asyncFault readFault faultFor behindOf unendedBelow unendedInside waitsFor waitsAt past pushed again popped endOf nextOf repeatOf lent child cellAfter touch touchAll effectOf withStores applied isNoActivity runBy isPlaced isBottom isStacked frameFits stackFits bodyFits barrierFits holdFits namesFit spawnerFits activityFits countsFit activitiesFit accumulatorsFit wellFormed at fault waits effect refusal exceeds advance unfit startWith start stepWith step canStep ready registrationOn sheetOf registrationsNumber registrations runFrom answersFrom run answers taken someFault finished sameList numbered hasFault accepts holdsFor allHold marked answersBy stateBy answersAs allAnswer own beginsWith leaves allLeave valued activityNumbers sameActivities sharedNumbers sameState activity written withActs withAccs withCounts change changeAcc nest nested pair paired crowd crowded deep deepest atom standing goes goesSo allGo renaming faulting affected allUnfit breaks allBreak broken stacked every unrun highest unmade spawned last startsSo allStart started answersSo allSo reader reading lined finish handMade rowsBegin shows allShow renamed cornered sheets quietFrom allQuiet quiets linesFrom sameLists printed walkPrints
 opened = true
 
 marked-hold : allHold marked ≡ true

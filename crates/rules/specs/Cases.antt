@@ -1,11 +1,11 @@
 -- The cases of document 01 marked P, and cases of our own, each a table with an order and what is expected.
 use Prim.Native.Nat.{ℕ, _+_}
 use mathlib.Core.List.{List, [], _∷_, map}
-use mathlib.Core.Bool.{Bool, true, cond, _&&_}
-use lib.Dec.{eqb}
+use mathlib.Core.Bool.{Bool, true, false, cond, _||_, _&&_}
+use lib.Dec.{ltb, eqb}
 use Rattle.program.specs.Bodies.{Program, programOf}
 use Rattle.program.specs.Count.{workOf, activitiesOf}
-use Rattle.program.specs.Same.{sameList, sameLists}
+use Rattle.program.specs.Same.{sameBool, sameList, sameLists}
 use Rattle.rules.specs.Search.{countBelow}
 use Rattle.rules.specs.declared.state.Fault.the-variants.{F1, F2, F3, F4, F5, F6, F7}
 use Rattle.rules.specs.declared.state.Registration.the-variants.{Free, Live, Quiesced}
@@ -14,7 +14,7 @@ use Rattle.rules.specs.State.{faultNumber, faultOf, operatorNumber, oper
 use Rattle.rules.specs.declared.state.State.{State}
 use Rattle.rules.specs.Steps.{base, startState, start, advance}
 use Rattle.rules.specs.declared.answer.Answer.{Answer}
-use Rattle.rules.specs.Runs.{run, answers, isAccepted}
+use Rattle.rules.specs.Runs.{run, answers, isAccepted, taken, someFault, finished}
 
 -- The start's answer; the work and the activities counted; the steps' answers; at the end the steps taken, the activities ended and those spawned.
 pub record Expected : Type 0 where
@@ -34,16 +34,26 @@ pub record Case : Type 0 where
 abbrev pub turnedDown : List ℕ → ℕ → Case
 turnedDown table number = record { table = table; order = []; expected = record { number = number; work = 0; activities = 0; answers = []; taken = 0; ended = 0; spawned = 0 } }
 
+-- Whether an answer of the list is a fault's.
+unfoldable pub hasFault : List ℕ → Bool
+hasFault [] = false
+hasFault (n ∷ ns) = let r = hasFault ns in ltb 100 n || r
+
 -- What is expected of an accepted table is what the rules give; of another, its number.
 unfoldable pub accepts : Case → Bool
 accepts c =
     let e = c .expected in
     let p = programOf (c .table) in
+    let got = answers base (c .table) (c .order) in
     let last = run base (c .table) (c .order) in
     eqb (workOf p) (e .work)
     && (eqb (activitiesOf p) (e .activities)
-    && (sameList (map answerNumber (answers base (c .table) (c .order))) (e .answers)
-    && (eqb (last .steps) (e .taken) && (eqb (countBelow (last .activities) (ended last)) (e .ended) && eqb (last .activities) (e .spawned)))))
+    && (sameList (map answerNumber got) (e .answers)
+    && (eqb (last .steps) (e .taken)
+    && (eqb (taken got) (e .taken)
+    && (sameBool (someFault got) (hasFault (e .answers))
+    && (eqb (countBelow (last .activities) (ended last)) (e .ended)
+    && (eqb (last .activities) (e .spawned) && sameBool (finished last) (eqb (e .ended) (e .spawned)))))))))
 
 unfoldable pub holdsFor : Case → Bool
 holdsFor c =

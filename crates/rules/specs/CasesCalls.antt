@@ -1,9 +1,10 @@
 -- Cases of our own: whole calls with a state made by hand. What is answered, the whole state returned, the ready set and the sheet.
 use Prim.Native.Nat.{ℕ, _+_, _^_}
 use mathlib.Core.List.{List, [], _∷_, _++_}
-use mathlib.Core.Bool.{Bool, true, false, cond, _&&_, not}
+use mathlib.Core.Bool.{Bool, true, false, _&&_}
 use lib.ListN.{length, replicate}
 use lib.Dec.{eqb}
+use Rattle.program.specs.Same.{sameBool}
 use Rattle.rules.specs.declared.state.Fault.the-variants.{F1, F7}
 use Rattle.rules.specs.declared.state.Status.the-variants.{Running, AtBarrier, Ended, Faulted}
 use Rattle.rules.specs.declared.state.Registration.{Registration}
@@ -18,7 +19,6 @@ use Rattle.rules.specs.State.{noHold, noActivity, noAccumulator}
 use Rattle.rules.specs.Clocks.{quiescent}
 use Rattle.rules.specs.Effects.{withNames, stopped}
 use Rattle.rules.specs.Steps.{base, startState, start, step, ready, registrations, registrationsNumber}
-use Rattle.rules.specs.Runs.{run}
 use Rattle.rules.specs.Same.{sameAnswer, sameState}
 use Rattle.rules.specs.Written.{frameAt, bottom, holdOn, holding, onBody, activity, written, withHold, withStatus, withSpawner, withActs, withCounts, change, nest, nested, pair, paired, crowd, crowded}
 use Rattle.rules.specs.CasesValues.{beginsWith}
@@ -187,7 +187,7 @@ unfoldable pub sheets : List Sheet
 sheets =
     record { table = pair; state = paired; number = 0; rows = (2 ∷ []) ∷ (1 ∷ []) ∷ [] }
     -- By clock number and not by name.
-    ∷ record { table = renamed; state = run base renamed (0 ∷ 0 ∷ 0 ∷ []); number = 0; rows = (0 ∷ 1 ∷ []) ∷ [] }
+    ∷ record { table = renamed; state = written 3 2 [] (activity Running 0 0 (bottom 6 0 ∷ []) (replicate 3 noHold ++ (holdOn 0 1 Live ∷ [])) [] ∷ []) []; number = 0; rows = (0 ∷ 1 ∷ []) ∷ [] }
     -- The last row and its last entry.
     ∷ record {
       table = crowd;
@@ -210,7 +210,7 @@ pub record Quiet : Type 0 where
 
 unfoldable pub quietFrom : State → ℕ → ℕ → List Bool → Bool
 quietFrom s c p [] = true
-quietFrom s c p (q ∷ qs) = let r = quietFrom s c (p + 1) qs in cond q (quiescent s c p) (not (quiescent s c p)) && r
+quietFrom s c p (q ∷ qs) = let r = quietFrom s c (p + 1) qs in sameBool (quiescent s c p) q && r
 
 unfoldable pub allQuiet : List Quiet → Bool
 allQuiet [] = true

@@ -7,12 +7,12 @@ use lib.Dec.{eqb}
 use Rattle.rules.specs.declared.state.Fault.the-variants.{F1, F7}
 use Rattle.rules.specs.declared.state.Status.the-variants.{Running, AtBarrier, Ended, Faulted}
 use Rattle.rules.specs.declared.state.Registration.the-variants.{Free, Live, Quiesced}
-use Rattle.rules.specs.declared.state.Operator.the-variants.{Sum, Minimum, Maximum}
+use Rattle.rules.specs.declared.state.Operator.the-variants.{Sum, Maximum}
 use Rattle.rules.specs.declared.state.Activity.{Activity}
 use Rattle.rules.specs.declared.state.State.{State}
 use Rattle.rules.specs.State.{answerNumber, noFrame, noFrames, noHold, noHolds}
 use Rattle.rules.specs.Effects.{withFrames, withHolds, withRegister, withNames, stopped}
-use Rattle.rules.specs.Steps.{base, startState, step, registrationsNumber}
+use Rattle.rules.specs.Steps.{base, step, registrationsNumber}
 use Rattle.rules.specs.Written.{frameAt, bottom, holdOn, holding, withFrame, onBody, withHold, withStatus, withSpawner, withCounts, change, changeAcc, nest, nested, pair, paired, crowd, crowded, deep, deepest, atom, standing}
 
 -- A fit state, and states in each of which a single clause is broken.
@@ -105,8 +105,9 @@ every =
     0x02 ∷ 0x01 ∷ 0x02 ∷ 0x01 ∷ 0x03 ∷ 0x01 ∷ 0x04 ∷ 0x01 ∷ 0x05 ∷ 0x01 ∷ 0x00 ∷ 0x08 ∷ 0x01 ∷ 0x00 ∷ 0x09 ∷ 0x01 ∷ 0x0A ∷ 0x01 ∷ 0x0B ∷ 0x01 ∷ 0x0C ∷ 0x00 ∷ 0x00 ∷ 0x00 ∷ 0x00 ∷ 0x0D ∷ 0x01
     ∷ 0x0E ∷ 0x01 ∷ 0x0F ∷ 0x01 ∷ 0x10 ∷ 0x01 ∷ 0x0D ∷ 0x01 ∷ 0x06 ∷ 0x01 ∷ 0x07 ∷ 0x02 ∷ 0x01 ∷ 0x00 ∷ 0x00 ∷ []
 
+-- Activity 63 on body 1, above the command at a place of body 0.
 abbrev above : ℕ → State
-above offset = change 0 (λ a. withFrames a 2 (bottom offset 0 ∷ frameAt 0 1 0 1 ∷ replicate 14 noFrame)) startState
+above offset = change 63 (λ a. withStatus Running (withFrames a 2 (bottom offset 0 ∷ frameAt 0 1 0 1 ∷ replicate 14 noFrame))) crowded
 
 unfoldable pub unrun : Broken
 unrun =
@@ -130,78 +131,82 @@ highest =
 
 -- EVERY UNUSED ENTRY
 
--- "an unused entry is not 0": each field of an unspawned activity and of an unmade accumulator, the first and the last of each.
+-- "an unused entry is not 0": each field of an unspawned activity, the last one, and some of the first; each of an unmade accumulator.
 unfoldable pub unmade : Broken
 unmade =
     changed nest nested
-    (change 1 (λ a. withRegister a 1)
-    ∷ change 63 (λ a. withRegister a 1)
-    ∷ change 1 (withFrame 0 (frameAt 1 0 0 0))
-    ∷ change 1 (withFrame 1 (frameAt 0 1 0 0))
+    (change 63 (λ a. withRegister a 1)
+    ∷ change 63 (withFrame 0 (frameAt 1 0 0 0))
+    ∷ change 63 (withFrame 1 (frameAt 0 1 0 0))
     ∷ change 63 (withFrame 15 (frameAt 0 1 0 0))
-    ∷ change 1 (withFrame 15 (frameAt 0 0 1 0))
-    ∷ change 1 (withFrame 2 (frameAt 0 0 0 1))
-    ∷ change 1 (withHold 0 (holdOn 1 0 Free))
-    ∷ change 1 (withHold 7 (holdOn 1 0 Free))
+    ∷ change 63 (withFrame 15 (frameAt 0 0 1 0))
+    ∷ change 63 (withFrame 2 (frameAt 0 0 0 1))
+    ∷ change 63 (withHold 0 (holdOn 1 0 Free))
+    ∷ change 63 (withHold 7 (holdOn 1 0 Free))
     ∷ change 63 (withHold 3 (holdOn 0 1 Free))
-    ∷ change 1 (withHold 4 (holdOn 0 0 Live))
+    ∷ change 63 (withHold 4 (holdOn 0 0 Live))
     ∷ change 63 (withHold 7 (holdOn 0 0 Quiesced))
-    ∷ change 1 (λ a. withNames a (1 ∷ replicate 7 0))
+    ∷ change 63 (λ a. withNames a (1 ∷ replicate 7 0))
     ∷ change 63 (λ a. withNames a (set (replicate 8 0) 7 1))
-    ∷ change 1 (withStatus AtBarrier)
+    ∷ change 63 (withStatus AtBarrier)
     ∷ change 63 (withStatus Ended)
-    ∷ change 1 (withStatus (Faulted F7))
-    ∷ change 1 (withSpawner 1)
+    ∷ change 63 (withStatus (Faulted F7))
     ∷ change 63 (withSpawner 1)
-    ∷ change 1 (λ a. withFrames a 1 noFrames)
+    ∷ change 63 (λ a. withFrames a 1 noFrames)
+    ∷ change 1 (λ a. withRegister a 1)
+    ∷ change 1 (withFrame 15 (frameAt 0 1 0 0))
+    ∷ change 1 (withStatus Ended)
     ∷ changeAcc 0 (holding 1 Sum 0)
     ∷ changeAcc 15 (holding 1 Sum 0)
     ∷ changeAcc 0 (holding 0 Sum 1)
-    ∷ changeAcc 0 (holding 0 Minimum 0)
     ∷ changeAcc 15 (holding 0 Maximum 0)
     ∷ [])
 
 -- A SPAWNED ACTIVITY'S NAMES AND STACK
 
--- An activity that holds clock 1 under name 2 and has accumulator 1 under name 7; and what may break in activity i alone, where three clocks and two accumulators are
--- made.
-abbrev owning : Activity → Activity
-owning a = withNames (withHold 2 (holdOn 3 1 Live) a) (set (replicate 8 0) 7 2)
-
-abbrev breaking : ℕ → List (State → State)
-breaking i =
-    -- two names for one clock: whatever the names, the phases and the registrations are
-    change i (withHold 5 (holdOn 3 1 Live))
-    ∷ change i (withHold 7 (holdOn 4 1 Quiesced))
-    ∷ change i (withHold 1 (holdOn 3 1 Live))
-    ∷ change i (λ a. withHold 6 (holdOn 0 2 Live) (withHold 7 (holdOn 0 2 Live) a))
-    -- a clock's and an accumulator's number out of range, a phase over its limit
-    ∷ change i (withHold 7 (holdOn 0 3 Live))
-    ∷ change i (withHold 7 (holdOn 65536 2 Quiesced))
-    ∷ change i (λ a. withNames a (set (replicate 8 0) 7 3))
-    ∷ change i (λ a. withNames a (set (replicate 8 0) 4 3))
-    -- a free name's phase and clock number
-    ∷ change i (withHold 7 (holdOn 1 0 Free))
-    ∷ change i (withHold 3 (holdOn 0 2 Free))
-    -- an unused frame
-    ∷ change i (withFrame 1 (frameAt 1 0 0 0))
-    ∷ change i (withFrame 15 (frameAt 1 0 0 0))
-    ∷ change i (withFrame 15 (frameAt 0 1 0 0))
-    ∷ change i (withFrame 4 (frameAt 0 0 1 0))
-    ∷ change i (withFrame 4 (frameAt 0 0 0 1))
-    -- the stack, the status and the spawner
-    ∷ change i (onBody (bottom 3 1))
-    ∷ change i (onBody (frameAt 0 1 1 0))
-    ∷ change i (onBody (frameAt 0 1 0 1))
-    ∷ change i (withStatus Ended)
-    ∷ change i (withStatus (Faulted F7))
-    ∷ change i (λ a. stopped a Running)
-    ∷ change i (withSpawner i)
-    ∷ []
-
--- The child of `paired`, with clock 0 under name 4; and activity 63, on the END of body 1, where a standing at a meeting is not on NEXT.
+-- The child of `paired` has its clock under name 4. Three clocks and two accumulators are made.
 unfoldable pub spawned : Broken
-spawned = changed pair (withCounts 3 2 3 2 (change 1 (λ a. owning (withHold 4 (holdOn 0 0 Live) (withHold 0 noHold a))) paired)) (change 1 (withHold 7 (holdOn 0 0 Live)) ∷ breaking 1)
+spawned =
+    changed pair (withCounts 3 2 3 2 (change 1 (λ a. withHold 4 (holdOn 0 0 Live) (withHold 0 noHold a)) paired))
+    (change 1 (withHold 0 (holdOn 0 0 Live))
+    ∷ change 1 (withHold 5 (holdOn 1 0 Quiesced))
+    ∷ change 1 (withHold 0 (holdOn 0 3 Live))
+    ∷ change 1 (withHold 1 (holdOn 1 0 Free))
+    ∷ change 1 (withFrame 1 (bottom 0 1))
+    ∷ change 1 (withSpawner 1)
+    ∷ [])
 
+-- Activity 63 is on the END of body 1, holds clock 1 under name 2 and has accumulator 1 under name 7.
 unfoldable pub last : Broken
-last = changed crowd (withCounts 0 64 3 2 (change 63 (λ a. owning (withStatus Running (onBody (bottom 0 1) a))) crowded)) (change 63 (withStatus AtBarrier) ∷ breaking 63)
+last =
+    changed crowd
+    (withCounts 0 64 3 2 (change 63 (λ a. withNames (withHold 2 (holdOn 3 1 Live) (withStatus Running (onBody (bottom 0 1) a))) (set (replicate 8 0) 7 2)) crowded))
+    -- two names for one clock: whatever the names, the phases and the registrations are
+    (change 63 (withHold 5 (holdOn 3 1 Live))
+    ∷ change 63 (withHold 7 (holdOn 4 1 Quiesced))
+    ∷ change 63 (withHold 1 (holdOn 3 1 Live))
+    ∷ change 63 (λ a. withHold 6 (holdOn 0 2 Live) (withHold 7 (holdOn 0 2 Live) a))
+    -- a clock's and an accumulator's number out of range, a phase over its limit
+    ∷ change 63 (withHold 7 (holdOn 0 3 Live))
+    ∷ change 63 (withHold 7 (holdOn 65536 2 Quiesced))
+    ∷ change 63 (λ a. withNames a (set (replicate 8 0) 7 3))
+    ∷ change 63 (λ a. withNames a (set (replicate 8 0) 4 3))
+    -- a free name's phase and clock number
+    ∷ change 63 (withHold 7 (holdOn 1 0 Free))
+    ∷ change 63 (withHold 3 (holdOn 0 2 Free))
+    -- an unused frame
+    ∷ change 63 (withFrame 1 (frameAt 1 0 0 0))
+    ∷ change 63 (withFrame 15 (frameAt 1 0 0 0))
+    ∷ change 63 (withFrame 15 (frameAt 0 1 0 0))
+    ∷ change 63 (withFrame 4 (frameAt 0 0 1 0))
+    ∷ change 63 (withFrame 4 (frameAt 0 0 0 1))
+    -- the stack, the status and the spawner
+    ∷ change 63 (onBody (bottom 3 1))
+    ∷ change 63 (onBody (frameAt 0 1 1 0))
+    ∷ change 63 (onBody (frameAt 0 1 0 1))
+    ∷ change 63 (withStatus AtBarrier)
+    ∷ change 63 (withStatus Ended)
+    ∷ change 63 (withStatus (Faulted F7))
+    ∷ change 63 (λ a. stopped a Running)
+    ∷ change 63 (withSpawner 63)
+    ∷ [])
