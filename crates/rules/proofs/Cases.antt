@@ -21,18 +21,22 @@ use Rattle.rules.specs.Same.{activityNumbers, sameActivities, sharedNumb
 use Rattle.rules.specs.Written.{activity, written, withActs, withAccs, withCounts, change, changeAcc, nest, nested, pair, paired, crowd, crowded, deep, deepest, atom, standing}
 use Rattle.rules.specs.CasesStates.{allUnfit, breaks, allBreak, broken, stacked, every, unrun, highest, unmade, spawned, last}
 use Rattle.rules.specs.CasesCalls.{startsSo, allStart, started, answersSo, allSo, reader, reading, lined, finish, handMade, rowsBegin, shows, allShow, renamed, cornered, sheets, quietFrom, allQuiet, quiets}
-use Rattle.rules.specs.CasesRuns.{goes, goesSo, allGo, renaming, faulting, affected}
+use Rattle.rules.specs.CasesRuns.{goes, goesSo, allGo, naming, faulting, affected}
 use Rattle.rules.specs.CasesValues.{beginsWith, leaves, allLeave, valued}
-use Rattle.rules.specs.Cases.{numbered, hasFault, accepts, holdsFor, allHold, marked, answersBy, stateBy, answersAs, allAnswer, own, linesFrom, printed, walkPrints}
+use Rattle.rules.specs.Cases.{numbered, hasFault, accepts, holdsFor, allHold, marked, unfinished, answersBy, stateBy, answersAs, allAnswer, own, linesFrom, printed, walkPrints}
 
 -- To name this on an `unfolding` line is to open the rules and the cases, for computing with them.
 unfoldable pub opened : Bool
-unfolding rows rowAt commandOf rowOf width names named times held isEnd usesCell read readingsAfter readings wholes commandsOf firstBody afterEnd locate bodiesOf programOf from isPlace nameFits atomFits placing leftAfter bodyAfter verdict fitsLength fitsBodies scan sumOver tallyTo tally workOf activitiesOf clocksOf accumulatorsOf overCount numberOf someBelow allBelow countBelow bitsBelow listFrom chain holdsSome isBehind behind quiescent rest here nextOffset finishes inOwnFinish inFinishBody descends inside lendsUnheld lendsQuiesced asyncFault readFault faultFor behindOf unendedBelow unendedInside waitsFor waitsAt past pushed again popped endOf nextOf repeatOf lent child cellAfter touch touchAll effectOf withStores applied isNoActivity runBy isPlaced isBottom isStacked frameFits stackFits bodyFits barrierFits holdFits namesFit spawnerFits activityFits countsFit activitiesFit accumulatorsFit wellFormed at fault waits effect refusal exceeds advance unfit startWith start stepWith step canStep ready registrationOn sheetOf registrationsNumber registrations runFrom answersFrom run answers taken someFault finished sameList numbered hasFault accepts holdsFor allHold marked answersBy stateBy answersAs allAnswer own beginsWith leaves allLeave valued activityNumbers sameActivities sharedNumbers sameState activity written withActs withAccs withCounts change changeAcc nest nested pair paired crowd crowded deep deepest atom standing goes goesSo allGo renaming faulting affected allUnfit breaks allBreak broken stacked every unrun highest unmade spawned last startsSo allStart started answersSo allSo reader reading lined finish handMade rowsBegin shows allShow renamed cornered sheets quietFrom allQuiet quiets linesFrom sameLists printed walkPrints
+unfolding rows rowAt commandOf rowOf width names named times held isEnd usesCell read readingsAfter readings wholes commandsOf firstBody afterEnd locate bodiesOf programOf from isPlace nameFits atomFits placing leftAfter bodyAfter verdict fitsLength fitsBodies scan sumOver tallyTo tally workOf activitiesOf clocksOf accumulatorsOf overCount numberOf someBelow allBelow countBelow bitsBelow listFrom chain holdsSome isBehind behind quiescent rest here nextOffset finishes inOwnFinish inFinishBody descends inside lendsUnheld lendsQuiesced asyncFault readFault faultFor behindOf unendedBelow unendedInside waitsFor waitsAt past pushed again popped endOf nextOf repeatOf lent child cellAfter touch touchAll effectOf withStores applied isNoActivity runBy isPlaced isBottom isStacked frameFits stackFits bodyFits barrierFits holdFits namesFit spawnerFits activityFits countsFit activitiesFit accumulatorsFit wellFormed at fault waits effect refusal exceeds advance unfit startWith start stepWith step canStep ready registrationOn sheetOf registrationsNumber registrations runFrom answersFrom run answers taken someFault finished sameList numbered hasFault accepts holdsFor allHold marked unfinished answersBy stateBy answersAs allAnswer own beginsWith leaves allLeave valued activityNumbers sameActivities sharedNumbers sameState activity written withActs withAccs withCounts change changeAcc nest nested pair paired crowd crowded deep deepest atom standing goes goesSo allGo naming faulting affected allUnfit breaks allBreak broken stacked every unrun highest unmade spawned last startsSo allStart started answersSo allSo reader reading lined finish handMade rowsBegin shows allShow renamed cornered sheets quietFrom allQuiet quiets linesFrom sameLists printed walkPrints
 opened = true
 
 marked-hold : allHold marked ≡ true
 unfolding opened
 marked-hold = refl
+
+own-hold : allHold unfinished ≡ true
+unfolding opened
+own-hold = refl
 
 walk-prints : walkPrints ≡ true
 unfolding opened
@@ -46,7 +50,7 @@ values-left : allLeave valued ≡ true
 unfolding opened
 values-left = refl
 
-names-go : allGo renaming ≡ true
+names-go : allGo naming ≡ true
 unfolding opened
 names-go = refl
 
@@ -88,15 +92,15 @@ enums-numbered = refl
 
 -- Every case of every list.
 pub cases-hold : allHold marked
-    && (walkPrints
+    && ((allHold unfinished && walkPrints)
     && (numbered
     && (allAnswer own
     && (allLeave valued
-    && (allGo renaming
+    && (allGo naming
     && (allGo faulting
     && (allGo affected
     && (allBreak broken
     && ((breaks stacked && (breaks unrun && (breaks highest && (breaks unmade && (breaks spawned && breaks last)))))
     && (allStart started && (allSo handMade && (allShow sheets && allQuiet quiets)))))))))))) ≡ true
 cases-hold =
-    rw (marked-hold, walk-prints, enums-numbered, own-answer, values-left, names-go, faults-go, effects-go, states-break, parts-break, starts-hold, states-answer, sheets-show, phases-quiet)
+    rw (marked-hold, own-hold, walk-prints, enums-numbered, own-answer, values-left, names-go, faults-go, effects-go, states-break, parts-break, starts-hold, states-answer, sheets-show, phases-quiet)

@@ -20,7 +20,7 @@ use Rattle.rules.specs.declared.state.Registration.the-variants.{Live}
 use Rattle.rules.specs.declared.state.Frame.{Frame}
 use Rattle.rules.specs.declared.state.Activity.{Activity}
 use Rattle.rules.specs.declared.state.State.{State}
-use Rattle.rules.specs.State.{operatorOf, noFrame, noHold, noFrames, noHolds, top, hold, accumulator, bound, isEnded, isAtBarrier}
+use Rattle.rules.specs.State.{operatorOf, noFrame, noHold, noFrames, noHolds, top, hold, bound, isEnded, isAtBarrier}
 use Rattle.rules.specs.Clocks.{isLive, holds, quiesce, pass}
 use Rattle.rules.specs.Tree.{isFinish, inOwnFinish}
 use Rattle.rules.specs.Faults.{bit, lendsUnheld, lendsQuiesced, asyncFault, unbound, numberUnder, readFault, faultFor}

@@ -138,6 +138,16 @@ marked =
 
 -- OUR OWN
 
+-- A run that is not finished: main has ended, its child has not.
+unfoldable pub unfinished : List Case
+unfinished =
+    record {
+      table = 0x02 ∷ 0x05 ∷ 0x01 ∷ 0x00 ∷ 0x00 ∷ 0x00 ∷ [];
+      order = 0 ∷ 0 ∷ [];
+      expected = record { number = 0; work = 3; activities = 2; answers = 0 ∷ 0 ∷ []; taken = 2; ended = 1; spawned = 2 };
+    }
+    ∷ []
+
 -- An accepted table with an order, and the steps' answers.
 pub record Answered : Type 0 where
   pub table : List ℕ
