@@ -188,6 +188,13 @@ sheets =
     record { table = pair; state = paired; number = 0; rows = (2 ∷ []) ∷ (1 ∷ []) ∷ [] }
     -- By clock number and not by name.
     ∷ record { table = renamed; state = written 3 2 [] (activity Running 0 0 (bottom 6 0 ∷ []) (replicate 3 noHold ++ (holdOn 0 1 Live ∷ [])) [] ∷ []) []; number = 0; rows = (0 ∷ 1 ∷ []) ∷ [] }
+    -- Clock 0 under name 3, past names that are free.
+    ∷ record {
+      table = renamed;
+      state = written 1 1 [] (activity Running 0 0 (bottom 2 0 ∷ []) (replicate 3 noHold ++ (holdOn 0 0 Live ∷ [])) [] ∷ []) [];
+      number = 0;
+      rows = (1 ∷ []) ∷ [];
+    }
     -- The last row and its last entry.
     ∷ record {
       table = crowd;

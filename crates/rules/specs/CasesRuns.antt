@@ -293,13 +293,13 @@ secondAnswers = firstAnswers ++ (running ∷ atBarrier ∷ waits ∷ atBarrier �
 abbrev family : ℕ → List ℕ
 family op = 0x04 ∷ 0x08 ∷ 0x02 ∷ 0x00 ∷ 0x05 ∷ 0x01 ∷ 0x00 ∷ op ∷ 0x02 ∷ 0x00 ∷ 0x05 ∷ 0x02 ∷ 0x00 ∷ 0x00 ∷ 0x05 ∷ 0x03 ∷ 0x00 ∷ 0x00 ∷ 0x00 ∷ []
 
--- It waits for the great-grandchild, the others having ended.
+-- It waits for the child, and at last for the great-grandchild, the others having ended.
 abbrev reading : ℕ → Run
 reading op =
     record {
       table = family op;
-      order = 0 ∷ 0 ∷ 1 ∷ 1 ∷ 2 ∷ 2 ∷ 0 ∷ 3 ∷ 0 ∷ 0 ∷ [];
-      answers = running ∷ running ∷ running ∷ ended ∷ running ∷ ended ∷ waits ∷ ended ∷ running ∷ ended ∷ [];
+      order = 0 ∷ 0 ∷ 0 ∷ 1 ∷ 1 ∷ 2 ∷ 2 ∷ 0 ∷ 3 ∷ 0 ∷ 0 ∷ [];
+      answers = running ∷ running ∷ waits ∷ running ∷ ended ∷ running ∷ ended ∷ waits ∷ ended ∷ running ∷ ended ∷ [];
       after =
           written 9 0 []
           (activity Ended 0 0 [] [] (0 ∷ 0 ∷ 1 ∷ [])
