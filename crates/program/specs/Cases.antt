@@ -10,7 +10,7 @@ use Rattle.program.specs.Table.{workLimit, tableOf}
 use Rattle.program.specs.Same.{sameList}
 use Rattle.program.specs.declared.table.Table.{Table}
 
--- A table's bytes and every number of what is told: the table's number, the bodies, the work, the activities, the clocks, the accumulators, and the first byte of
+-- A table's bytes and every number that is told of it: its own number, the bodies, the work, the activities, the clocks, the accumulators, and the first byte of
 -- each of sixteen bodies.
 pub record Told : Type 0 where
   pub bytes : List ℕ
@@ -40,7 +40,7 @@ refused number bytes = record { bytes = bytes; numbers = number ∷ replicate 21
 
 -- COUNTS
 
--- A body of NEXTs.
+-- A table of one body of NEXTs.
 abbrev nexts : ℕ → List ℕ
 nexts n = 0x01 ∷ replicate n 0x01 ++ (0x00 ∷ [])
 
@@ -57,7 +57,7 @@ working n = 0x03 ∷ 0x07 ∷ 0xFF ∷ 0x01 ∷ fetches n ++ (0x00 ∷ 0x07 ∷ 
 abbrev repeated : ℕ → List ℕ → List ℕ
 repeated n commands = 0x03 ∷ 0x07 ∷ n ∷ 0x01 ∷ 0x00 ∷ commands ++ (0x00 ∷ 0x00 ∷ [])
 
--- Every command, in four bodies; both clocks and accumulators, not alike many.
+-- Every command, in four bodies; both clocks and accumulators, in different numbers.
 abbrev everyCommand : List ℕ
 everyCommand =
     0x04
@@ -80,7 +80,7 @@ complete =
     ∷ accepted everyCommand (1 ∷ 15 ∷ 28 ∷ 44 ∷ []) 76 5 6 11
     -- "A table's counts are those of body 0": body 1 is named by nobody.
     ∷ accepted (0x02 ∷ 0x00 ∷ 0x01 ∷ 0x02 ∷ 0x00 ∷ 0x08 ∷ 0x00 ∷ 0x00 ∷ 0x00 ∷ []) (1 ∷ 2 ∷ []) 1 1 0 0
-    -- The greatest operand of each kind, and the least k.
+    -- The greatest c, a, o, d and k, and the least k.
     ∷ accepted
     (0x01 ∷ 0x02 ∷ 0x07 ∷ 0x03 ∷ 0x07 ∷ 0x04 ∷ 0x07 ∷ 0x08 ∷ 0x07 ∷ 0x02 ∷ 0x09 ∷ 0x07 ∷ 0x0A ∷ 0x07 ∷ 0x0B ∷ 0x07 ∷ 0x0D ∷ 0x0F ∷ 0x0E ∷ 0x0F
     ∷ 0x0F ∷ 0x0F ∷ 0x10 ∷ 0x08 ∷ fetches 8
@@ -129,7 +129,7 @@ turnedDown =
     ∷ refused 5 (0x01 ∷ 0x0F ∷ 0x10 ∷ 0x00 ∷ [])
     ∷ refused 5 (0x01 ∷ 0x10 ∷ 0x00 ∷ 0x00 ∷ [])
     ∷ refused 5 (0x01 ∷ 0x10 ∷ 0x09 ∷ fetches 9 ++ (0x00 ∷ []))
-    -- 6 for each command that names a body: the own body, a lower one, the number of bodies.
+    -- 6 for each command that names a body: the own body or a lower one, the number of bodies.
     ∷ refused 6 (0x01 ∷ 0x06 ∷ 0x01 ∷ 0x00 ∷ [])
     ∷ refused 6 (0x02 ∷ 0x05 ∷ 0x00 ∷ 0x01 ∷ 0x00 ∷ 0x00 ∷ [])
     ∷ refused 6 (0x02 ∷ 0x05 ∷ 0x02 ∷ 0x01 ∷ 0x00 ∷ 0x00 ∷ [])
@@ -137,13 +137,17 @@ turnedDown =
     ∷ refused 6 (0x02 ∷ 0x07 ∷ 0x00 ∷ 0x02 ∷ 0x00 ∷ 0x00 ∷ [])
     ∷ refused 6 (0x03 ∷ 0x00 ∷ 0x06 ∷ 0x01 ∷ 0x00 ∷ 0x00 ∷ [])
     ∷ refused 6 (0x03 ∷ 0x00 ∷ 0x06 ∷ 0x00 ∷ 0x00 ∷ 0x00 ∷ [])
-    -- Each of the k commands after ATOM is a command in turn: 3 to 6 are tried for it, and then 7, of each.
+    -- Each of the k commands after ATOM is a command in turn: 3 to 6 are tried for it, and then 7, before the next is read.
     ∷ refused 3 (0x01 ∷ 0x10 ∷ 0x01 ∷ 0x11 ∷ [])
     ∷ refused 4 (0x01 ∷ 0x10 ∷ 0x01 ∷ 0x05 ∷ [])
     ∷ refused 5 (0x01 ∷ 0x10 ∷ 0x01 ∷ 0x02 ∷ 0x09 ∷ 0x00 ∷ [])
     ∷ refused 6 (0x01 ∷ 0x10 ∷ 0x01 ∷ 0x06 ∷ 0x00 ∷ 0x00 ∷ [])
     ∷ refused 7 (0x02 ∷ 0x10 ∷ 0x01 ∷ 0x06 ∷ 0x01 ∷ 0x00 ∷ 0x00 ∷ [])
     ∷ refused 7 (0x01 ∷ 0x10 ∷ 0x01 ∷ 0x00 ∷ 0x00 ∷ [])
+    ∷ refused 5 (0x01 ∷ 0x10 ∷ 0x09 ∷ [])
+    ∷ refused 5 (0x01 ∷ 0x10 ∷ 0x01 ∷ 0x0D ∷ 0x10 ∷ 0x00 ∷ [])
+    ∷ refused 7 (0x01 ∷ 0x10 ∷ 0x02 ∷ 0x01 ∷ [])
+    ∷ refused 7 (0x01 ∷ 0x10 ∷ 0x02 ∷ 0x01 ∷ 0x11 ∷ 0x00 ∷ [])
     ∷ refused 7 (0x01 ∷ 0x10 ∷ 0x01 ∷ 0x0C ∷ 0x00 ∷ 0x00 ∷ 0x00 ∷ 0x00 ∷ 0x00 ∷ [])
     ∷ refused 7 (0x01 ∷ 0x10 ∷ 0x02 ∷ 0x10 ∷ 0x01 ∷ 0x0D ∷ 0x00 ∷ 0x00 ∷ [])
     ∷ refused 7 (0x01 ∷ 0x10 ∷ 0x08 ∷ fetches 7 ++ (0x01 ∷ 0x00 ∷ []))
@@ -183,6 +187,10 @@ limited =
     ∷ refused 11 (repeated 17 acc)
     ∷ accepted (working 253) (1 ∷ 511 ∷ 515 ∷ []) 65535 1 0 0
     ∷ refused 12 (working 254)
+    -- What a named body makes counts, by ASYNC and FINISH too; and no count wraps.
+    ∷ refused 9 (0x04 ∷ 0x07 ∷ 0x20 ∷ 0x01 ∷ 0x00 ∷ 0x05 ∷ 0x02 ∷ 0x00 ∷ 0x00 ∷ 0x05 ∷ 0x03 ∷ 0x00 ∷ 0x00 ∷ 0x00 ∷ [])
+    ∷ refused 10 (0x03 ∷ 0x07 ∷ 0x11 ∷ 0x01 ∷ 0x00 ∷ 0x06 ∷ 0x02 ∷ 0x00 ∷ 0x02 ∷ 0x00 ∷ 0x04 ∷ 0x00 ∷ 0x00 ∷ [])
+    ∷ refused 9 (0x07 ∷ 0x07 ∷ 0x80 ∷ 0x01 ∷ 0x00 ∷ 0x07 ∷ 0x80 ∷ 0x02 ∷ 0x00 ∷ 0x07 ∷ 0x80 ∷ 0x03 ∷ 0x00 ∷ 0x07 ∷ 0x80 ∷ 0x04 ∷ 0x00 ∷ 0x07 ∷ 0x80 ∷ 0x05 ∷ 0x00 ∷ 0x05 ∷ 0x06 ∷ 0x00 ∷ 0x00 ∷ 0x00 ∷ [])
     -- Where two apply, the lower number.
     ∷ refused 9 (repeated 64 (clock ++ async))
     ∷ refused 9 (repeated 64 (acc ++ async))
@@ -203,7 +211,7 @@ spelt (c ∷ cs) = opcode c ∷ operandsOf c ++ spelt cs
 abbrev readBack : List ℕ → Bool
 readBack t = sameList (spelt (commandsOf t)) (drop 1 t)
 
--- They are the bytes that were read; the bytes of each command byte, and of one that is no command; the first four of a list.
+-- They are the bytes that were read. How many bytes each command byte takes with its operands; one that is no command stands alone. The first four of a list.
 unfoldable pub spells : Bool
 spells =
     (readBack everyCommand && readBack (0x01 ∷ 0x0C ∷ 0xFF ∷ 0xFF ∷ 0xFF ∷ 0xFF ∷ 0x0C ∷ 0x00 ∷ 0x00 ∷ 0x00 ∷ 0x01 ∷ 0x00 ∷ []))

@@ -19,15 +19,15 @@ use Rattle.rules.specs.Steps.{at, fault, waits, effect, refusal, exceeds
 use Rattle.rules.specs.Runs.{runFrom, answersFrom, run, answers, taken, someFault, finished}
 use Rattle.rules.specs.Same.{activityNumbers, sameActivities, sharedNumbers, sameState}
 use Rattle.rules.specs.Written.{activity, written, withActs, withAccs, withCounts, change, changeAcc, nest, nested, pair, paired, crowd, crowded, deep, deepest, atom, standing}
-use Rattle.rules.specs.CasesStates.{allUnfit, breaks, allBreak, broken, stacked, every, unrun, highest, unmade, spawned, last}
-use Rattle.rules.specs.CasesCalls.{startsSo, allStart, started, answersSo, allSo, reader, reading, lined, finish, handMade, rowsBegin, shows, allShow, renamed, cornered, sheets, quietFrom, allQuiet, quiets}
+use Rattle.rules.specs.CasesStates.{allUnfit, breaks, allBreak, broken, stacked, every, unrun, highest, mainly, over, unmade, spawned, last}
+use Rattle.rules.specs.CasesCalls.{startsSo, allStart, started, answersSo, allSo, reader, reading, lined, finish, handMade, allFault, breaches, rowsBegin, shows, allShow, renamed, cornered, sheets, quietFrom, allQuiet, quiets}
 use Rattle.rules.specs.CasesRuns.{goes, goesSo, allGo, naming, faulting, affected}
 use Rattle.rules.specs.CasesValues.{beginsWith, leaves, allLeave, valued}
 use Rattle.rules.specs.Cases.{numbered, hasFault, accepts, holdsFor, allHold, marked, unfinished, answersBy, stateBy, answersAs, allAnswer, own, linesFrom, printed, walkPrints}
 
 -- To name this on an `unfolding` line is to open the rules and the cases, for computing with them.
 unfoldable pub opened : Bool
-unfolding rows rowAt commandOf rowOf width names named times held isEnd usesCell read readingsAfter readings wholes commandsOf firstBody afterEnd locate bodiesOf programOf from isPlace nameFits atomFits placing leftAfter bodyAfter verdict fitsLength fitsBodies scan sumOver tallyTo tally workOf activitiesOf clocksOf accumulatorsOf overCount numberOf someBelow allBelow countBelow bitsBelow listFrom chain holdsSome isBehind behind quiescent rest here nextOffset finishes inOwnFinish inFinishBody descends inside lendsUnheld lendsQuiesced asyncFault readFault faultFor behindOf unendedBelow unendedInside waitsFor waitsAt past pushed again popped endOf nextOf repeatOf lent child cellAfter touch touchAll effectOf withStores applied isNoActivity runBy isPlaced isBottom isStacked frameFits stackFits bodyFits barrierFits holdFits namesFit spawnerFits activityFits countsFit activitiesFit accumulatorsFit wellFormed at fault waits effect refusal exceeds advance unfit startWith start stepWith step canStep ready registrationOn sheetOf registrationsNumber registrations runFrom answersFrom run answers taken someFault finished sameList numbered hasFault accepts holdsFor allHold marked unfinished answersBy stateBy answersAs allAnswer own beginsWith leaves allLeave valued activityNumbers sameActivities sharedNumbers sameState activity written withActs withAccs withCounts change changeAcc nest nested pair paired crowd crowded deep deepest atom standing goes goesSo allGo naming faulting affected allUnfit breaks allBreak broken stacked every unrun highest unmade spawned last startsSo allStart started answersSo allSo reader reading lined finish handMade rowsBegin shows allShow renamed cornered sheets quietFrom allQuiet quiets linesFrom sameLists printed walkPrints
+unfolding rows rowAt commandOf rowOf width names named times held isEnd usesCell read readingsAfter readings wholes commandsOf firstBody afterEnd locate bodiesOf programOf from isPlace nameFits atomFits placing leftAfter bodyAfter verdict fitsLength fitsBodies scan sumOver tallyTo tally workOf activitiesOf clocksOf accumulatorsOf overCount numberOf someBelow allBelow countBelow bitsBelow listFrom chain holdsSome isBehind behind quiescent rest here nextOffset finishes inOwnFinish inFinishBody descends inside lendsUnheld lendsQuiesced asyncFault readFault faultFor behindOf unendedBelow unendedInside waitsFor waitsAt past pushed again popped endOf nextOf repeatOf lent child cellAfter touch touchAll effectOf withStores applied isNoActivity runBy isPlaced isBottom isStacked frameFits stackFits bodyFits barrierFits holdFits namesFit spawnerFits activityFits countsFit activitiesFit accumulatorsFit wellFormed at fault waits effect refusal exceeds advance unfit startWith start stepWith step canStep ready registrationOn sheetOf registrationsNumber registrations runFrom answersFrom run answers taken someFault finished sameList numbered hasFault accepts holdsFor allHold marked unfinished answersBy stateBy answersAs allAnswer own beginsWith leaves allLeave valued activityNumbers sameActivities sharedNumbers sameState activity written withActs withAccs withCounts change changeAcc nest nested pair paired crowd crowded deep deepest atom standing goes goesSo allGo naming faulting affected allUnfit breaks allBreak broken stacked every unrun highest mainly over unmade spawned last startsSo allStart started answersSo allSo reader reading lined finish handMade allFault breaches rowsBegin shows allShow renamed cornered sheets quietFrom allQuiet quiets linesFrom sameLists printed walkPrints
 opened = true
 
 marked-hold : allHold marked ≡ true
@@ -66,7 +66,7 @@ states-break : allBreak broken ≡ true
 unfolding opened
 states-break = refl
 
-parts-break : breaks stacked && (breaks unrun && (breaks highest && (breaks unmade && (breaks spawned && breaks last)))) ≡ true
+parts-break : breaks stacked && (breaks unrun && (breaks highest && (breaks mainly && (breaks over && (breaks unmade && (breaks spawned && breaks last)))))) ≡ true
 unfolding opened
 parts-break = refl
 
@@ -77,6 +77,10 @@ starts-hold = refl
 states-answer : allSo handMade ≡ true
 unfolding opened
 states-answer = refl
+
+states-fault : allFault breaches ≡ true
+unfolding opened
+states-fault = refl
 
 sheets-show : allShow sheets ≡ true
 unfolding opened
@@ -100,7 +104,7 @@ pub cases-hold : allHold marked
     && (allGo faulting
     && (allGo affected
     && (allBreak broken
-    && ((breaks stacked && (breaks unrun && (breaks highest && (breaks unmade && (breaks spawned && breaks last)))))
-    && (allStart started && (allSo handMade && (allShow sheets && allQuiet quiets)))))))))))) ≡ true
+    && ((breaks stacked && (breaks unrun && (breaks highest && (breaks mainly && (breaks over && (breaks unmade && (breaks spawned && breaks last)))))))
+    && (allStart started && ((allSo handMade && allFault breaches) && (allShow sheets && allQuiet quiets)))))))))))) ≡ true
 cases-hold =
-    rw (marked-hold, own-hold, walk-prints, enums-numbered, own-answer, values-left, names-go, faults-go, effects-go, states-break, parts-break, starts-hold, states-answer, sheets-show, phases-quiet)
+    rw (marked-hold, own-hold, walk-prints, enums-numbered, own-answer, values-left, names-go, faults-go, effects-go, states-break, parts-break, starts-hold, states-answer, states-fault, sheets-show, phases-quiet)

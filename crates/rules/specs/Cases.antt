@@ -138,13 +138,19 @@ marked =
 
 -- OUR OWN
 
--- A run that is not finished: main has ended, its child has not.
+-- Through the whole calls: main has ended, its child has not; at a meeting with no clock; at a meeting in a REPEAT body.
 unfoldable pub unfinished : List Case
 unfinished =
     record {
       table = 0x02 ∷ 0x05 ∷ 0x01 ∷ 0x00 ∷ 0x00 ∷ 0x00 ∷ [];
       order = 0 ∷ 0 ∷ [];
       expected = record { number = 0; work = 3; activities = 2; answers = 0 ∷ 0 ∷ []; taken = 2; ended = 1; spawned = 2 };
+    }
+    ∷ record { table = 0x01 ∷ 0x01 ∷ 0x00 ∷ []; order = 0 ∷ 0 ∷ []; expected = record { number = 0; work = 3; activities = 1; answers = 0 ∷ 0 ∷ []; taken = 2; ended = 0; spawned = 1 } }
+    ∷ record {
+      table = 0x02 ∷ 0x07 ∷ 0x01 ∷ 0x01 ∷ 0x00 ∷ 0x01 ∷ 0x00 ∷ [];
+      order = 0 ∷ 0 ∷ 0 ∷ [];
+      expected = record { number = 0; work = 5; activities = 1; answers = 0 ∷ 0 ∷ 0 ∷ []; taken = 3; ended = 0; spawned = 1 };
     }
     ∷ []
 
@@ -315,9 +321,14 @@ own =
       order = 0 ∷ [];
       answers = 105 ∷ [];
     }
-    -- F6 of READ and RESET, before F7.
+    -- F6 of READ and RESET, before F7; an OFFER of another's accumulator, and one with a quiesced clock, is no breach.
     ∷ record {
       table = 0x02 ∷ 0x02 ∷ 0x00 ∷ 0x08 ∷ 0x00 ∷ 0x00 ∷ 0x05 ∷ 0x01 ∷ 0x01 ∷ 0x00 ∷ 0x0A ∷ 0x00 ∷ 0x00 ∷ [];
+      order = 0 ∷ 0 ∷ 0 ∷ 1 ∷ [];
+      answers = 0 ∷ 0 ∷ 0 ∷ 106 ∷ [];
+    }
+    ∷ record {
+      table = 0x02 ∷ 0x02 ∷ 0x00 ∷ 0x08 ∷ 0x00 ∷ 0x00 ∷ 0x05 ∷ 0x01 ∷ 0x01 ∷ 0x00 ∷ 0x0B ∷ 0x00 ∷ 0x00 ∷ [];
       order = 0 ∷ 0 ∷ 0 ∷ 1 ∷ [];
       answers = 0 ∷ 0 ∷ 0 ∷ 106 ∷ [];
     }
@@ -326,11 +337,103 @@ own =
       order = 0 ∷ 0 ∷ 1 ∷ [];
       answers = 0 ∷ 0 ∷ 106 ∷ [];
     }
-    -- F7, "Faults come before waiting."
+    ∷ record {
+      table = 0x02 ∷ 0x08 ∷ 0x00 ∷ 0x00 ∷ 0x05 ∷ 0x01 ∷ 0x00 ∷ 0x00 ∷ 0x09 ∷ 0x00 ∷ 0x00 ∷ [];
+      order = 0 ∷ 0 ∷ 1 ∷ [];
+      answers = 0 ∷ 0 ∷ 0 ∷ [];
+    }
+    ∷ record {
+      table = 0x01 ∷ 0x08 ∷ 0x00 ∷ 0x00 ∷ 0x02 ∷ 0x00 ∷ 0x03 ∷ 0x00 ∷ 0x09 ∷ 0x00 ∷ 0x00 ∷ [];
+      order = 0 ∷ 0 ∷ 0 ∷ 0 ∷ [];
+      answers = 0 ∷ 0 ∷ 0 ∷ 0 ∷ [];
+    }
+    -- "Faults come before waiting.": F7 of READ and RESET, F6, F5.
     ∷ record {
       table = 0x02 ∷ 0x02 ∷ 0x00 ∷ 0x08 ∷ 0x00 ∷ 0x00 ∷ 0x05 ∷ 0x01 ∷ 0x00 ∷ 0x0A ∷ 0x00 ∷ 0x00 ∷ 0x00 ∷ [];
       order = 0 ∷ 0 ∷ 0 ∷ 0 ∷ [];
       answers = 0 ∷ 0 ∷ 0 ∷ 107 ∷ [];
+    }
+    ∷ record {
+      table = 0x02 ∷ 0x02 ∷ 0x00 ∷ 0x08 ∷ 0x00 ∷ 0x00 ∷ 0x05 ∷ 0x01 ∷ 0x00 ∷ 0x0B ∷ 0x00 ∷ 0x00 ∷ 0x00 ∷ [];
+      order = 0 ∷ 0 ∷ 0 ∷ 0 ∷ [];
+      answers = 0 ∷ 0 ∷ 0 ∷ 107 ∷ [];
+    }
+    ∷ record {
+      table = 0x03 ∷ 0x08 ∷ 0x00 ∷ 0x00 ∷ 0x05 ∷ 0x01 ∷ 0x00 ∷ 0x00 ∷ 0x05 ∷ 0x02 ∷ 0x00 ∷ 0x0A ∷ 0x00 ∷ 0x00 ∷ 0x00 ∷ [];
+      order = 0 ∷ 0 ∷ 1 ∷ 1 ∷ [];
+      answers = 0 ∷ 0 ∷ 0 ∷ 106 ∷ [];
+    }
+    ∷ record {
+      table = 0x02 ∷ 0x05 ∷ 0x01 ∷ 0x00 ∷ 0x0A ∷ 0x00 ∷ 0x00 ∷ 0x00 ∷ [];
+      order = 0 ∷ 0 ∷ [];
+      answers = 0 ∷ 105 ∷ [];
+    }
+    -- "A faulted activity counts as ended.": READ, and the END of a FINISH body, do not wait for a faulted child,
+    ∷ record {
+      table = 0x02 ∷ 0x08 ∷ 0x00 ∷ 0x00 ∷ 0x05 ∷ 0x01 ∷ 0x00 ∷ 0x0A ∷ 0x00 ∷ 0x00 ∷ 0x04 ∷ 0x00 ∷ 0x00 ∷ [];
+      order = 0 ∷ 0 ∷ 1 ∷ 0 ∷ [];
+      answers = 0 ∷ 0 ∷ 101 ∷ 0 ∷ [];
+    }
+    ∷ record {
+      table = 0x03 ∷ 0x06 ∷ 0x01 ∷ 0x00 ∷ 0x05 ∷ 0x02 ∷ 0x00 ∷ 0x00 ∷ 0x04 ∷ 0x00 ∷ 0x00 ∷ [];
+      order = 0 ∷ 0 ∷ 1 ∷ 0 ∷ [];
+      answers = 0 ∷ 0 ∷ 101 ∷ 0 ∷ [];
+    }
+    -- but for its child.
+    ∷ record {
+      table = 0x03 ∷ 0x08 ∷ 0x00 ∷ 0x00 ∷ 0x05 ∷ 0x01 ∷ 0x00 ∷ 0x0A ∷ 0x00 ∷ 0x00 ∷ 0x05 ∷ 0x02 ∷ 0x00 ∷ 0x04 ∷ 0x00 ∷ 0x00 ∷ 0x00 ∷ [];
+      order = 0 ∷ 0 ∷ 1 ∷ 1 ∷ 0 ∷ [];
+      answers = 0 ∷ 0 ∷ 0 ∷ 101 ∷ 16 ∷ [];
+    }
+    ∷ record {
+      table = 0x04 ∷ 0x06 ∷ 0x01 ∷ 0x00 ∷ 0x05 ∷ 0x02 ∷ 0x00 ∷ 0x00 ∷ 0x05 ∷ 0x03 ∷ 0x00 ∷ 0x04 ∷ 0x00 ∷ 0x00 ∷ 0x00 ∷ [];
+      order = 0 ∷ 0 ∷ 1 ∷ 1 ∷ 0 ∷ [];
+      answers = 0 ∷ 0 ∷ 0 ∷ 101 ∷ 16 ∷ [];
+    }
+    -- READ does not wait for a sibling; in an own FINISH body it waits for a child from before too.
+    ∷ record {
+      table = 0x02 ∷ 0x05 ∷ 0x01 ∷ 0x00 ∷ 0x05 ∷ 0x01 ∷ 0x00 ∷ 0x00 ∷ 0x08 ∷ 0x00 ∷ 0x00 ∷ 0x0A ∷ 0x00 ∷ 0x00 ∷ [];
+      order = 0 ∷ 0 ∷ 1 ∷ 1 ∷ [];
+      answers = 0 ∷ 0 ∷ 0 ∷ 0 ∷ [];
+    }
+    ∷ record {
+      table = 0x03 ∷ 0x08 ∷ 0x00 ∷ 0x00 ∷ 0x05 ∷ 0x02 ∷ 0x00 ∷ 0x06 ∷ 0x01 ∷ 0x00 ∷ 0x0A ∷ 0x00 ∷ 0x00 ∷ 0x00 ∷ [];
+      order = 0 ∷ 0 ∷ 0 ∷ 0 ∷ [];
+      answers = 0 ∷ 0 ∷ 0 ∷ 16 ∷ [];
+    }
+    -- At a meeting siblings wait for each other, also when the spawner has dropped the clock.
+    ∷ record {
+      table = 0x02 ∷ 0x02 ∷ 0x00 ∷ 0x05 ∷ 0x01 ∷ 0x01 ∷ 0x05 ∷ 0x01 ∷ 0x01 ∷ 0x04 ∷ 0x00 ∷ 0x00 ∷ 0x01 ∷ 0x00 ∷ [];
+      order = 0 ∷ 0 ∷ 0 ∷ 0 ∷ 1 ∷ 1 ∷ 2 ∷ 1 ∷ [];
+      answers = 0 ∷ 0 ∷ 0 ∷ 0 ∷ 0 ∷ 16 ∷ 0 ∷ 0 ∷ [];
+    }
+    -- Holders are those of the clock, not of the name: the child drops it and makes another under the same.
+    ∷ record {
+      table = 0x02 ∷ 0x02 ∷ 0x01 ∷ 0x05 ∷ 0x01 ∷ 0x02 ∷ 0x01 ∷ 0x00 ∷ 0x04 ∷ 0x01 ∷ 0x02 ∷ 0x01 ∷ 0x00 ∷ [];
+      order = 0 ∷ 0 ∷ 1 ∷ 1 ∷ 0 ∷ 0 ∷ [];
+      answers = 0 ∷ 0 ∷ 0 ∷ 0 ∷ 0 ∷ 0 ∷ [];
+    }
+    -- "in the activity's phase on it": main is in phase 1 on one clock and in 0 on the one that it shares.
+    ∷ record {
+      table = 0x02 ∷ 0x02 ∷ 0x00 ∷ 0x01 ∷ 0x02 ∷ 0x01 ∷ 0x05 ∷ 0x01 ∷ 0x02 ∷ 0x01 ∷ 0x00 ∷ 0x01 ∷ 0x00 ∷ [];
+      order = 0 ∷ 0 ∷ 0 ∷ 0 ∷ 0 ∷ 0 ∷ 1 ∷ 0 ∷ [];
+      answers = 0 ∷ 0 ∷ 0 ∷ 0 ∷ 0 ∷ 0 ∷ 0 ∷ 0 ∷ [];
+    }
+    -- F3 through two REPEAT bodies; NEXT in an own FINISH body is no breach; the END of a REPEAT body waits for nobody.
+    ∷ record {
+      table = 0x05 ∷ 0x02 ∷ 0x00 ∷ 0x06 ∷ 0x01 ∷ 0x00 ∷ 0x07 ∷ 0x01 ∷ 0x02 ∷ 0x00 ∷ 0x07 ∷ 0x01 ∷ 0x03 ∷ 0x00 ∷ 0x05 ∷ 0x04 ∷ 0x01 ∷ 0x00 ∷ 0x00 ∷ [];
+      order = 0 ∷ 0 ∷ 0 ∷ 0 ∷ 0 ∷ [];
+      answers = 0 ∷ 0 ∷ 0 ∷ 0 ∷ 103 ∷ [];
+    }
+    ∷ record {
+      table = 0x02 ∷ 0x02 ∷ 0x00 ∷ 0x06 ∷ 0x01 ∷ 0x00 ∷ 0x01 ∷ 0x00 ∷ [];
+      order = 0 ∷ 0 ∷ 0 ∷ 0 ∷ 0 ∷ [];
+      answers = 0 ∷ 0 ∷ 0 ∷ 0 ∷ 0 ∷ [];
+    }
+    ∷ record {
+      table = 0x04 ∷ 0x06 ∷ 0x01 ∷ 0x00 ∷ 0x07 ∷ 0x02 ∷ 0x02 ∷ 0x00 ∷ 0x05 ∷ 0x03 ∷ 0x00 ∷ 0x00 ∷ 0x00 ∷ [];
+      order = 0 ∷ 0 ∷ 0 ∷ 0 ∷ 0 ∷ [];
+      answers = 0 ∷ 0 ∷ 0 ∷ 0 ∷ 0 ∷ [];
     }
     -- Numbers that nobody has: 14, and 15 for one that has ended.
     ∷ record {

@@ -5,11 +5,12 @@ use mathlib.Core.Bool.{Bool, true, false, _&&_}
 use lib.ListN.{length, replicate}
 use lib.Dec.{eqb}
 use Rattle.program.specs.Same.{sameBool}
-use Rattle.rules.specs.declared.state.Fault.the-variants.{F1, F7}
+use Rattle.rules.specs.declared.state.Fault.{Fault}
+use Rattle.rules.specs.declared.state.Fault.the-variants.{F1, F2, F3, F4, F5, F6, F7}
 use Rattle.rules.specs.declared.state.Status.the-variants.{Running, AtBarrier, Ended, Faulted}
 use Rattle.rules.specs.declared.state.Registration.{Registration}
 use Rattle.rules.specs.declared.state.Registration.the-variants.{Live, Quiesced}
-use Rattle.rules.specs.declared.state.Operator.the-variants.{Minimum}
+use Rattle.rules.specs.declared.state.Operator.the-variants.{Sum, Minimum}
 use Rattle.rules.specs.declared.state.Activity.{Activity}
 use Rattle.rules.specs.declared.state.State.{State}
 use Rattle.rules.specs.declared.answer.Answer.{Answer}
@@ -107,12 +108,12 @@ lonely phase registration = change 0 (withHold 0 (holdOn phase 0 registration)) 
 
 unfoldable pub handMade : List Handed
 handMade =
-    -- The table's number before 13, and 13 before 14.
+    -- The table's number before 13; 13 before 14, and for one that could step.
     unread (0x00 ∷ 0x00 ∷ []) (withCounts 7 1 0 0 nested) 0 2
     ∷ unread (0x01 ∷ 0x00 ∷ 0x00 ∷ []) paired 0 8
     ∷ unread nest (withCounts 7 1 0 0 nested) 64 13
     ∷ unread pair (change 63 (withStatus Ended) paired) 1 13
-    -- 14; 15 before 16, in the same state but for main's end; a state with no activity.
+    -- 14; 16; 15 in the same state but for main's end; a state with no activity, which is fit.
     ∷ refused reader (reading same) 2 14 2
     ∷ refused reader (reading same) 0 16 2
     ∷ refused reader (reading (λ a. stopped a Ended)) 0 15 2
@@ -126,7 +127,7 @@ handMade =
     ∷ refused pair (lonely 65535 Quiesced) 0 17 1
     ∷ refused pair (withCounts 3 2 2 0 (change 0 (withHold 7 (holdOn 65535 1 Quiesced)) (lonely 3 Quiesced))) 0 17 1
     ∷ refused pair (withCounts 8 2 1 0 paired) 1 17 2
-    -- The last of each is made, and the last phase is reached; to arrive raises no phase.
+    -- The last of each is made, and the last phase is reached; to arrive raises no phase; the last step of the work.
     ∷ accepted crowd (withCounts 0 63 0 0 (change 63 (λ a. noActivity) crowded)) 0 1 (Accepted Running)
     (withCounts 1 64 0 0 (change 63 (λ a. activity Running 0 0 (bottom 0 1 ∷ []) [] []) (change 0 (onBody (bottom 3 0)) crowded)))
     ∷ accepted (0x01 ∷ 0x02 ∷ 0x06 ∷ 0x00 ∷ []) (withCounts 0 1 15 0 startState) 0 1 (Accepted Running)
@@ -138,16 +139,48 @@ handMade =
     ∷ accepted pair (change 0 (withStatus Running) (lonely 65535 Live)) 0 1 (Accepted AtBarrier) (withCounts 4 2 1 0 (lonely 65535 Quiesced))
     ∷ accepted pair (withCounts 7 2 1 0 (change 0 (λ a. withStatus Running (onBody (bottom 6 0) a)) (lonely 65535 Live))) 0 1 (Accepted Ended)
     (withCounts 8 2 1 0 (change 0 (λ a. stopped a Ended) (change 1 (λ a. stopped a Ended) paired)))
-    -- Of a faulting step only the last: an ASYNC that faults needs no 65th activity.
+    -- Of a faulting step only "more steps than the work": an ASYNC that faults needs no 65th activity.
     ∷ refused (0x01 ∷ 0x03 ∷ 0x00 ∷ 0x00 ∷ []) (withCounts 2 1 0 0 startState) 0 17 1
     ∷ accepted (0x02 ∷ 0x05 ∷ 0x01 ∷ 0x01 ∷ 0x00 ∷ 0x00 ∷ []) crowded 0 1 (Accepted (Faulted F1))
     (withCounts 1 64 0 0 (change 0 (λ a. stopped a (Faulted F1)) crowded))
-    -- 16 before 17: the activity that waits is not in the ready set.
+    -- 16 before 17: the activity that waits is not in the ready set. At a meeting and live, it waits for itself.
     ∷ refused pair (withCounts 8 2 1 0 paired) 0 16 2
+    ∷ refused pair (change 0 (withHold 0 (holdOn 65535 0 Quiesced)) (change 1 (withHold 0 (holdOn 65535 0 Live)) paired)) 0 16 2
+    ∷ refused pair (lonely 3 Live) 0 16 0
     -- READ, and the END of a FINISH body, wait for the last in a line of sixty-three; it is not inside where the first was spawned before the finish.
     ∷ refused reader (lined (activity Running 0 0 (bottom 0 0 ∷ []) [] (1 ∷ [])) 1) 0 16 (2 ^ 63)
     ∷ refused finish (lined (finishing 1) 0) 0 16 (2 ^ 63)
     ∷ accepted finish (lined (finishing 2) 0) 0 (2 ^ 63 + 1) (Accepted Running) (withCounts 1 64 0 0 (change 0 (onBody (bottom 2 0)) (lined (finishing 2) 0)))
+    ∷ []
+
+-- FAULTS
+
+-- A state of main at a command that meets the fault.
+pub record Breach : Type 0 where
+  pub table : List ℕ
+  pub state : State
+  pub fault : Fault
+
+unfoldable pub allFault : List Breach → Bool
+allFault [] = true
+allFault (c ∷ cs) = let r = allFault cs in sameAnswer (step base (c .table) (c .state) 0 .answer) (Accepted (Faulted (c .fault))) && r
+
+abbrev breach : Fault → List ℕ → State → Breach
+breach f table s = record { table = table; state = s; fault = f }
+
+abbrev owner : ℕ → Activity → State
+owner i main = written 0 1 [] (main ∷ activity Ended 0 0 [] [] [] ∷ []) (holding 0 Sum i ∷ [])
+
+unfoldable pub breaches : List Breach
+breaches =
+    breach F1 (0x01 ∷ 0x03 ∷ 0x00 ∷ 0x00 ∷ []) startState
+    ∷ breach F2 (0x02 ∷ 0x05 ∷ 0x01 ∷ 0x01 ∷ 0x00 ∷ 0x00 ∷ []) (withCounts 0 1 1 0 (change 0 (withHold 0 (holdOn 0 0 Quiesced)) startState))
+    ∷ breach F3 (0x03 ∷ 0x06 ∷ 0x01 ∷ 0x00 ∷ 0x05 ∷ 0x02 ∷ 0x01 ∷ 0x00 ∷ 0x00 ∷ []) (written 0 0 [] (finishing 1 ∷ []) [])
+    -- F4 before 17.
+    ∷ breach F4 (0x01 ∷ 0x02 ∷ 0x00 ∷ 0x00 ∷ []) (withCounts 0 1 16 0 (change 0 (withHold 0 (holdOn 0 0 Live)) startState))
+    ∷ breach F5 (0x01 ∷ 0x09 ∷ 0x00 ∷ 0x00 ∷ []) startState
+    ∷ breach F6 reader (owner 1 (activity Running 0 0 (bottom 0 0 ∷ []) [] (1 ∷ [])))
+    ∷ breach F7 reader (owner 0 (activity Running 0 0 (bottom 0 0 ∷ []) (holdOn 0 0 Live ∷ []) (1 ∷ [])))
     ∷ []
 
 -- THE SHEET

@@ -165,7 +165,7 @@ naming =
           ∷ [])
           [];
     }
-    -- "RESUME c: quiesce on c; again changes nothing": CLOCK 2, RESUME 2, RESUME 2; then NEXT.
+    -- RESUME c: "quiesce on c; again changes nothing". CLOCK 2, RESUME 2, RESUME 2; then NEXT.
     ∷ record {
       table = resumed;
       order = replicate 4 0;
@@ -212,7 +212,7 @@ faulting =
     ∷ breach (0x03 ∷ 0x02 ∷ 0x00 ∷ 0x03 ∷ 0x00 ∷ 0x06 ∷ 0x01 ∷ 0x00 ∷ 0x05 ∷ 0x02 ∷ 0x01 ∷ 0x00 ∷ 0x00 ∷ []) 3 F3 (alone 4 1 F3)
     -- F4 on a quiesced name.
     ∷ breach (0x01 ∷ 0x02 ∷ 0x03 ∷ 0x03 ∷ 0x03 ∷ 0x02 ∷ 0x03 ∷ 0x00 ∷ []) 2 F4 (alone 3 1 F4)
-    -- F5 where F7 would apply: CLOCK 1, then READ 5, RESET 5.
+    -- F5 where F7 would apply: CLOCK 1, READ 5; CLOCK 1, RESET 5.
     ∷ breach (0x01 ∷ 0x02 ∷ 0x01 ∷ 0x0A ∷ 0x05 ∷ 0x00 ∷ []) 1 F5 (alone 2 1 F5)
     ∷ breach (0x01 ∷ 0x02 ∷ 0x01 ∷ 0x0B ∷ 0x05 ∷ 0x00 ∷ []) 1 F5 (alone 2 1 F5)
     -- F5 by a child, beside an accumulator of another's that it has under name 0.
@@ -235,7 +235,7 @@ faulting =
     -- F7 by a quiesced clock under the last name: READ, RESET.
     ∷ breach (quiescedReader 0x0A) 3 F7 quiescedReads
     ∷ breach (quiescedReader 0x0B) 3 F7 quiescedReads
-    -- A fault is who steps' own: the child waits while main stands at RESUME 5, and passes once main has faulted.
+    -- Only the activity that steps can fault: the child waits while main stands at RESUME 5, and passes once main has faulted.
     ∷ record {
       table = 0x02 ∷ 0x02 ∷ 0x00 ∷ 0x05 ∷ 0x01 ∷ 0x01 ∷ 0x03 ∷ 0x05 ∷ 0x00 ∷ 0x01 ∷ 0x00 ∷ [];
       order = 0 ∷ 0 ∷ 1 ∷ 1 ∷ 0 ∷ 1 ∷ [];
@@ -289,7 +289,7 @@ firstAnswers = running ∷ running ∷ atBarrier ∷ atBarrier ∷ running ∷ [
 abbrev secondAnswers : List Answer
 secondAnswers = firstAnswers ++ (running ∷ atBarrier ∷ waits ∷ atBarrier ∷ running ∷ running ∷ [])
 
--- The commands of a line of four: ACC 2 0, ASYNC of the next, then the command given under name 2; each of the others spawns the next and ends.
+-- The commands of a line of four: ACC 2 0, ASYNC of the next, then the command given under name 2; each of the others but the last spawns the next, and ends.
 abbrev family : ℕ → List ℕ
 family op = 0x04 ∷ 0x08 ∷ 0x02 ∷ 0x00 ∷ 0x05 ∷ 0x01 ∷ 0x00 ∷ op ∷ 0x02 ∷ 0x00 ∷ 0x05 ∷ 0x02 ∷ 0x00 ∷ 0x00 ∷ 0x05 ∷ 0x03 ∷ 0x00 ∷ 0x00 ∷ 0x00 ∷ []
 
@@ -327,6 +327,24 @@ affected =
           ∷ activity AtBarrier 0 0 (bottom 0 1 ∷ []) (free 3 ++ (holdOn 0 0 Quiesced ∷ [])) []
           ∷ [])
           [];
+    }
+    ∷ record {
+      table = meetings;
+      order = firstMeeting ++ (1 ∷ []);
+      answers = firstAnswers ++ (running ∷ []);
+      after =
+          written 6 1 []
+          (activity Running 0 0 (bottom 6 0 ∷ []) (free 3 ++ (holdOn 1 0 Live ∷ [])) []
+          ∷ activity Running 0 0 (bottom 1 1 ∷ []) (free 3 ++ (holdOn 1 0 Live ∷ [])) []
+          ∷ [])
+          [];
+    }
+    -- Each own clock has a phase of its own: CLOCK 0, NEXT, CLOCK 1, NEXT.
+    ∷ record {
+      table = 0x01 ∷ 0x02 ∷ 0x00 ∷ 0x01 ∷ 0x02 ∷ 0x01 ∷ 0x01 ∷ 0x00 ∷ [];
+      order = replicate 6 0;
+      answers = running ∷ atBarrier ∷ running ∷ running ∷ atBarrier ∷ running ∷ [];
+      after = written 6 2 [] (activity Running 0 0 (bottom 6 0 ∷ []) (holdOn 2 0 Live ∷ holdOn 1 1 Live ∷ []) [] ∷ []) [];
     }
     ∷ record {
       table = meetings;
@@ -370,7 +388,7 @@ affected =
           (activity Running 0 0 (bottom 6 0 ∷ []) [] (0 ∷ 1 ∷ []) ∷ activity Running 0 6 (bottom 21 1 ∷ []) [] (0 ∷ 2 ∷ 0 ∷ 0 ∷ 0 ∷ 3 ∷ []) ∷ [])
           (holding 6 Sum 0 ∷ holding 6 Minimum 1 ∷ holding 6 Maximum 1 ∷ []);
     }
-    -- "RESET a: a's value becomes hand", of a minimum too, which stays one: ACC 2 1, PUT 5, OFFER 2, PUT 9, RESET 2, PUT 12, OFFER 2.
+    -- RESET a: "a's value becomes hand", of a minimum too, which stays one. ACC 2 1, PUT 5, OFFER 2, PUT 9, RESET 2, PUT 12, OFFER 2.
     ∷ record {
       table = 0x01 ∷ 0x08 ∷ 0x02 ∷ 0x01 ∷ 0x0C ∷ 0x05 ∷ 0x00 ∷ 0x00 ∷ 0x00 ∷ 0x09 ∷ 0x02 ∷ 0x0C ∷ 0x09 ∷ 0x00 ∷ 0x00 ∷ 0x00 ∷ 0x0B ∷ 0x02 ∷ 0x0C
           ∷ 0x0C ∷ 0x00 ∷ 0x00 ∷ 0x00 ∷ 0x09 ∷ 0x02 ∷ 0x00 ∷ [];
@@ -439,7 +457,7 @@ affected =
           ∷ [])
           [];
     }
-    -- Nothing else waits for who is inside: in a FINISH body ASYNC 2 0, PUT 5, CLOCK 1, RESUME 1, DROP 1, ACC 1 0, OFFER 1, STORE 1, FETCH 1, ADD 1, ATOM 1 of ADD 2,
+    -- No other command but READ and RESET waits for who is inside: in a FINISH body ASYNC 2 0, PUT 5, CLOCK 1, RESUME 1, DROP 1, ACC 1 0, OFFER 1, STORE 1, FETCH 1, ADD 1, ATOM 1 of ADD 2,
     -- NEXT, REPEAT 0 2, REPEAT 1 2 and its END, FINISH 2 and its END; only then the END waits.
     ∷ record {
       table = 0x03 ∷ 0x06 ∷ 0x01 ∷ 0x00 ∷ 0x05 ∷ 0x02 ∷ 0x00 ∷ 0x0C ∷ 0x05 ∷ 0x00 ∷ 0x00 ∷ 0x00 ∷ 0x02 ∷ 0x01 ∷ 0x03 ∷ 0x01 ∷ 0x04 ∷ 0x01 ∷ 0x08
@@ -452,7 +470,7 @@ affected =
           (activity Running 0 5 (bottom 0 0 ∷ frameAt 38 1 0 1 ∷ []) [] (0 ∷ 1 ∷ []) ∷ activity Running 0 0 (bottom 0 2 ∷ []) [] [] ∷ [])
           (holding 5 Sum 0 ∷ []);
     }
-    -- What was stored, offered and reduced before: ACC 1 2, ACC 2 1, PUT 3, OFFER 1, STORE 6, PUT 9, OFFER 2, PUT 7, OFFER 1, OFFER 2, STORE 6.
+    -- A second STORE, and second OFFERs: ACC 1 2, ACC 2 1, PUT 3, OFFER 1, STORE 6, PUT 9, OFFER 2, PUT 7, OFFER 1, OFFER 2, STORE 6.
     ∷ record {
       table = 0x01 ∷ 0x08 ∷ 0x01 ∷ 0x02 ∷ 0x08 ∷ 0x02 ∷ 0x01 ∷ 0x0C ∷ 0x03 ∷ 0x00 ∷ 0x00 ∷ 0x00 ∷ 0x09 ∷ 0x01 ∷ 0x0E ∷ 0x06 ∷ 0x0C ∷ 0x09 ∷ 0x00
           ∷ 0x00 ∷ 0x00 ∷ 0x09 ∷ 0x02 ∷ 0x0C ∷ 0x07 ∷ 0x00 ∷ 0x00 ∷ 0x00 ∷ 0x09 ∷ 0x01 ∷ 0x09 ∷ 0x02 ∷ 0x0E ∷ 0x06 ∷ 0x00 ∷ [];
@@ -461,7 +479,7 @@ affected =
       after =
           written 11 0 (replicate 6 0 ++ (7 ∷ [])) (activity Running 0 7 (bottom 33 0 ∷ []) [] (0 ∷ 1 ∷ 2 ∷ []) ∷ []) (holding 7 Maximum 0 ∷ holding 7 Minimum 0 ∷ []);
     }
-    -- With sixteen accumulators and sixteen clocks made, what makes none is no 17: REPEAT 16 of ACC 3 0, CLOCK 2, DROP 2; PUT 9, OFFER 3, PUT 4, RESET 3.
+    -- With sixteen accumulators and sixteen clocks made, a command that makes none is not turned down with 17: REPEAT 16 of ACC 3 0, CLOCK 2, DROP 2; PUT 9, OFFER 3, PUT 4, RESET 3.
     ∷ record {
       table = 0x02 ∷ 0x07 ∷ 0x10 ∷ 0x01 ∷ 0x0C ∷ 0x09 ∷ 0x00 ∷ 0x00 ∷ 0x00 ∷ 0x09 ∷ 0x03 ∷ 0x0C ∷ 0x04 ∷ 0x00 ∷ 0x00 ∷ 0x00 ∷ 0x0B ∷ 0x03 ∷ 0x00
           ∷ 0x08 ∷ 0x03 ∷ 0x00 ∷ 0x02 ∷ 0x02 ∷ 0x04 ∷ 0x02 ∷ 0x00 ∷ [];

@@ -1,6 +1,6 @@
 -- Cases of our own: states made by hand for number 13, clause by clause, each broken alone where it can be.
 use Prim.Native.Nat.{ℕ}
-use mathlib.Core.List.{List, [], _∷_, map}
+use mathlib.Core.List.{List, [], _∷_, _++_, map}
 use mathlib.Core.Bool.{Bool, true, _&&_}
 use lib.ListN.{set, replicate}
 use lib.Dec.{eqb}
@@ -10,12 +10,13 @@ use Rattle.rules.specs.declared.state.Registration.the-variants.{Free, L
 use Rattle.rules.specs.declared.state.Operator.the-variants.{Sum, Maximum}
 use Rattle.rules.specs.declared.state.Activity.{Activity}
 use Rattle.rules.specs.declared.state.State.{State}
+use Rattle.rules.specs.Search.{listFrom}
 use Rattle.rules.specs.State.{answerNumber, noFrame, noFrames, noHold, noHolds}
 use Rattle.rules.specs.Effects.{withFrames, withHolds, withRegister, withNames, stopped}
-use Rattle.rules.specs.Steps.{base, step, registrationsNumber}
+use Rattle.rules.specs.Steps.{base, startState, step, registrationsNumber}
 use Rattle.rules.specs.Written.{frameAt, bottom, holdOn, holding, withFrame, onBody, withHold, withStatus, withSpawner, withCounts, change, changeAcc, nest, nested, pair, paired, crowd, crowded, deep, deepest, atom, standing}
 
--- A fit state, and states in each of which a single clause is broken.
+-- A fit state, and states that each break a clause.
 pub record Broken : Type 0 where
   pub table : List ℕ
   pub fit : State
@@ -37,7 +38,7 @@ allBreak (c ∷ cs) = let r = allBreak cs in breaks c && r
 abbrev changed : List ℕ → State → List (State → State) → Broken
 changed table s changes = record { table = table; fit = s; unfit = map (λ (f : State → State). f s) changes }
 
--- Two states that differ in one number, the first fit.
+-- Two states, the first fit, the second not.
 abbrev apart : List ℕ → State → State → Broken
 apart table fit unfit = record { table = table; fit = fit; unfit = unfit ∷ [] }
 
@@ -52,6 +53,8 @@ broken =
     apart crowd crowded (withCounts 0 65 0 0 crowded)
     ∷ apart nest (withCounts 2 1 16 0 nested) (withCounts 2 1 17 0 nested)
     ∷ apart nest (withCounts 2 1 0 16 nested) (withCounts 2 1 0 17 nested)
+    -- `first` has no lower bound
+    ∷ apart nest (change 0 (withFrame 1 (frameAt 0 1 0 0)) nested) (change 0 (withFrame 1 (frameAt 0 1 0 2)) nested)
     ∷ apart deep (deepest 16) (deepest 17)
     -- ".. or phase is over its limit (phases 65,535)"
     ∷ apart pair (change 1 (withHold 0 (holdOn 65535 0 Live)) paired) (change 1 (withHold 0 (holdOn 65536 0 Live)) paired)
@@ -87,7 +90,7 @@ stacked =
     ∷ change 0 (λ a. withFrames a 2 (frameAt 0 0 0 0 ∷ frameAt 0 0 0 1 ∷ replicate 14 noFrame))
     -- "a standing at a meeting is not on NEXT"
     ∷ change 0 (withStatus AtBarrier)
-    -- "an unmade thing is named": an accumulator, and an activity as the first inside a finish
+    -- "an unmade thing is named": an accumulator, and more activities at the beginning of a finish than were made
     ∷ change 0 (λ a. withNames a (1 ∷ replicate 7 0))
     ∷ change 0 (withFrame 1 (frameAt 0 1 0 2))
     -- "an unused entry is not 0": the runs and `first` of a frame that has none, main's spawner
@@ -98,8 +101,8 @@ stacked =
     ∷ change 0 (withSpawner 1)
     ∷ [])
 
--- A body above each command that runs none: NEXT, CLOCK 1, RESUME 1, DROP 1, ASYNC 1 0, ACC 1 0, OFFER 1, READ 1, RESET 1, PUT 0, FETCH 1, STORE 1, ADD 1, ATOM 1 of
--- FETCH 1, END; and the body of FINISH 1 above REPEAT 2 1.
+-- Body 0: NEXT, CLOCK 1, RESUME 1, DROP 1, ASYNC 1 0, ACC 1 0, OFFER 1, READ 1, RESET 1, PUT 0, FETCH 1, STORE 1, ADD 1, ATOM 1 of FETCH 1, FINISH 1, REPEAT 2 1, END.
+-- Body 1 is a bare END. It may stand above FINISH, and above no other as a FINISH body does.
 unfoldable pub every : List ℕ
 every =
     0x02 ∷ 0x01 ∷ 0x02 ∷ 0x01 ∷ 0x03 ∷ 0x01 ∷ 0x04 ∷ 0x01 ∷ 0x05 ∷ 0x01 ∷ 0x00 ∷ 0x08 ∷ 0x01 ∷ 0x00 ∷ 0x09 ∷ 0x01 ∷ 0x0A ∷ 0x01 ∷ 0x0B ∷ 0x01
@@ -118,7 +121,7 @@ unrun =
       unfit = map above (0 ∷ 1 ∷ 3 ∷ 5 ∷ 7 ∷ 10 ∷ 13 ∷ 15 ∷ 17 ∷ 19 ∷ 24 ∷ 26 ∷ 28 ∷ 30 ∷ 36 ∷ 39 ∷ []);
     }
 
--- Sixteen bodies: the last.
+-- Sixteen bodies on a stack: what may be wrong with the last, and below it.
 unfoldable pub highest : Broken
 highest =
     changed deep (deepest 16)
@@ -128,6 +131,8 @@ highest =
     ∷ change 0 (withFrame 15 (frameAt 0 15 1 1))
     ∷ change 0 (withFrame 15 (frameAt 0 14 1 0))
     ∷ change 0 (λ a. withFrame 14 (frameAt 0 15 1 0) (withFrame 15 noFrame (withFrames a 15 (a .frames))))
+    ∷ change 0 (withFrame 2 (frameAt 0 2 2 0))
+    ∷ change 0 (λ a. withFrames a 15 (frameAt 0 0 0 0 ∷ frameAt 0 1 1 0 ∷ listFrom 13 3 (λ b. frameAt 0 b 1 0) ++ (noFrame ∷ [])))
     ∷ [])
 
 -- EVERY UNUSED ENTRY
@@ -164,6 +169,32 @@ unmade =
     ∷ [])
 
 -- A SPAWNED ACTIVITY'S NAMES AND STACK
+
+-- Main, on a bare END, holds clock 0.
+unfoldable pub mainly : Broken
+mainly =
+    changed (0x02 ∷ 0x00 ∷ 0x01 ∷ 0x00 ∷ []) (withCounts 0 1 1 0 (change 0 (withHold 0 (holdOn 0 0 Live)) startState))
+    (change 0 (withHold 1 (holdOn 0 0 Live))
+    ∷ change 0 (withHold 1 (holdOn 0 1 Live))
+    ∷ change 0 (withHold 0 (holdOn 65536 0 Live))
+    ∷ change 0 (withHold 1 (holdOn 0 1 Free))
+    ∷ change 0 (withFrame 1 (bottom 0 1))
+    -- the place of a later body's command
+    ∷ change 0 (onBody (bottom 1 0))
+    ∷ [])
+
+-- The first two of three activities that main spawned have ended, one with a fault.
+unfoldable pub over : Broken
+over =
+    changed crowd (withCounts 0 4 1 0 (change 3 (onBody (bottom 0 1)) (change 2 (λ a. stopped a (Faulted F1)) (change 1 (λ a. stopped a Ended) startState))))
+    (change 1 (withSpawner 1)
+    ∷ change 1 (withSpawner 2)
+    ∷ change 1 (λ a. withNames a (1 ∷ replicate 7 0))
+    ∷ change 1 (withFrame 0 (bottom 0 1))
+    ∷ change 1 (withHold 0 (holdOn 1 0 Free))
+    ∷ change 1 (withHold 7 (holdOn 0 0 Live))
+    ∷ change 2 (withHold 0 (holdOn 0 0 Quiesced))
+    ∷ [])
 
 -- The child of `paired` has its clock under name 4. Three clocks and two accumulators are made.
 unfoldable pub spawned : Broken

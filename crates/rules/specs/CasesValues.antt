@@ -37,7 +37,7 @@ allLeave (c ∷ cs) = let r = allLeave cs in leaves (stateBy (programOf (c .tabl
 
 unfoldable pub valued : List Valued
 valued =
-    -- "PUT v: hand becomes v", the lowest byte first. "STORE d: cell becomes hand." An ended activity's hand stays.
+    -- PUT v: "hand becomes v", "lowest first". STORE d: "cell becomes hand". An ended activity's hand stays.
     record {
       table = 0x01 ∷ 0x0C ∷ 0x78 ∷ 0x56 ∷ 0x34 ∷ 0x12 ∷ 0x0E ∷ 0x03 ∷ 0x00 ∷ [];
       order = 0 ∷ 0 ∷ 0 ∷ [];
@@ -45,7 +45,7 @@ valued =
       cells = 0 ∷ 0 ∷ 0 ∷ 305419896 ∷ [];
       values = [];
     }
-    -- "FETCH d: hand becomes the cell."
+    -- FETCH d: "hand becomes the cell".
     ∷ record {
       table = 0x01 ∷ 0x0C ∷ 0x05 ∷ 0x00 ∷ 0x00 ∷ 0x00 ∷ 0x0E ∷ 0x01 ∷ 0x0C ∷ 0x00 ∷ 0x00 ∷ 0x00 ∷ 0x00 ∷ 0x0D ∷ 0x01 ∷ 0x00 ∷ [];
       order = 0 ∷ 0 ∷ 0 ∷ 0 ∷ [];
@@ -53,7 +53,7 @@ valued =
       cells = 0 ∷ 5 ∷ [];
       values = [];
     }
-    -- "ADD d: cell becomes cell plus hand modulo 2^32."
+    -- ADD d: "cell becomes cell plus hand modulo 2^32".
     ∷ record {
       table = 0x01 ∷ 0x0C ∷ 0xFF ∷ 0xFF ∷ 0xFF ∷ 0xFF ∷ 0x0E ∷ 0x00 ∷ 0x0F ∷ 0x00 ∷ 0x00 ∷ [];
       order = 0 ∷ 0 ∷ 0 ∷ [];
@@ -61,7 +61,7 @@ valued =
       cells = 4294967294 ∷ [];
       values = [];
     }
-    -- "ATOM k: the next k commands, all 0D to 0F, in one step": STORE 0, ADD 0, FETCH 0.
+    -- ATOM k: "the next k commands, all 0D to 0F, in one step", STORE 0, ADD 0, FETCH 0.
     ∷ record {
       table = 0x01 ∷ 0x0C ∷ 0x05 ∷ 0x00 ∷ 0x00 ∷ 0x00 ∷ 0x10 ∷ 0x03 ∷ 0x0E ∷ 0x00 ∷ 0x0F ∷ 0x00 ∷ 0x0D ∷ 0x00 ∷ 0x00 ∷ [];
       order = 0 ∷ 0 ∷ [];
@@ -77,7 +77,7 @@ valued =
       cells = [];
       values = 0 ∷ 4294967295 ∷ 0 ∷ [];
     }
-    -- "OFFER a: reduce hand into a": sum modulo 2^32, minimum, maximum.
+    -- OFFER a: "reduce hand into a", "sum modulo 2^32", minimum, maximum.
     ∷ record {
       table = 0x01 ∷ 0x08 ∷ 0x00 ∷ 0x00 ∷ 0x0C ∷ 0xFF ∷ 0xFF ∷ 0xFF ∷ 0xFF ∷ 0x09 ∷ 0x00 ∷ 0x09 ∷ 0x00 ∷ 0x00 ∷ [];
       order = 0 ∷ 0 ∷ 0 ∷ 0 ∷ [];
@@ -99,7 +99,7 @@ valued =
       cells = [];
       values = 7 ∷ [];
     }
-    -- "READ a: hand becomes a's value. RESET a: a's value becomes hand."
+    -- READ a: "hand becomes a's value". RESET a: "a's value becomes hand".
     ∷ record {
       table = 0x01 ∷ 0x08 ∷ 0x00 ∷ 0x01 ∷ 0x0A ∷ 0x00 ∷ 0x00 ∷ [];
       order = 0 ∷ 0 ∷ [];
@@ -145,5 +145,22 @@ valued =
       hands = 5 ∷ 1 ∷ 1 ∷ 1 ∷ 1 ∷ 1 ∷ [];
       cells = [];
       values = 5 ∷ [];
+    }
+    -- Minimum and maximum have no sign: 1 and 4,294,967,295.
+    ∷ record {
+      table = 0x01 ∷ 0x08 ∷ 0x00 ∷ 0x01 ∷ 0x08 ∷ 0x01 ∷ 0x02 ∷ 0x0C ∷ 0x01 ∷ 0x00 ∷ 0x00 ∷ 0x00 ∷ 0x09 ∷ 0x00 ∷ 0x09 ∷ 0x01 ∷ 0x0C ∷ 0xFF ∷ 0xFF
+          ∷ 0xFF ∷ 0xFF ∷ 0x09 ∷ 0x00 ∷ 0x09 ∷ 0x01 ∷ 0x00 ∷ [];
+      order = 0 ∷ 0 ∷ 0 ∷ 0 ∷ 0 ∷ 0 ∷ 0 ∷ 0 ∷ [];
+      hands = 4294967295 ∷ [];
+      cells = [];
+      values = 1 ∷ 4294967295 ∷ [];
+    }
+    -- An accumulator outlives its owner: main ends, then its child offers 3.
+    ∷ record {
+      table = 0x02 ∷ 0x08 ∷ 0x00 ∷ 0x00 ∷ 0x05 ∷ 0x01 ∷ 0x00 ∷ 0x00 ∷ 0x0C ∷ 0x03 ∷ 0x00 ∷ 0x00 ∷ 0x00 ∷ 0x09 ∷ 0x00 ∷ 0x00 ∷ [];
+      order = 0 ∷ 0 ∷ 0 ∷ 1 ∷ 1 ∷ [];
+      hands = 0 ∷ 3 ∷ [];
+      cells = [];
+      values = 3 ∷ [];
     }
     ∷ []

@@ -179,7 +179,7 @@ cellAfter cell (x ∷ xs) d = let r = cellAfter cell xs d in cond (eqb (x .cell)
 abbrev pub storing : Touch → ℕ → ℕ → Touch
 storing t d v = record { register = t .register; stores = record { cell = d; value = v } ∷ t .stores }
 
--- "FETCH d: hand becomes the cell. STORE d: cell becomes hand. ADD d: cell becomes cell plus hand modulo 2^32."
+-- FETCH d: "hand becomes the cell". STORE d: "cell becomes hand". ADD d: "cell becomes cell plus hand modulo 2^32".
 unfoldable pub touch : (ℕ → ℕ) → Touch → Command → Touch
 touch cell t End = t
 touch cell t Next = t
@@ -199,7 +199,7 @@ touch cell t (Store d) = storing t d (t .register)
 touch cell t (Add d) = storing t d ((cellAfter cell (t .stores) d + t .register) % 4294967296)
 touch cell t (Atom k) = t
 
--- "ATOM k: the next k commands, all 0D to 0F, in one step"
+-- ATOM k: "the next k commands, all 0D to 0F, in one step"
 unfoldable pub touchAll : (ℕ → ℕ) → Touch → List Command → Touch
 touchAll cell t [] = t
 touchAll cell t (c ∷ cs) = touchAll cell (touch cell t c) cs
