@@ -390,6 +390,12 @@ own =
       order = 0 ∷ 0 ∷ 1 ∷ 1 ∷ 0 ∷ [];
       answers = 0 ∷ 0 ∷ 0 ∷ 101 ∷ 16 ∷ [];
     }
+    -- OFFER by the owner waits for no descendant.
+    ∷ record {
+      table = 0x02 ∷ 0x08 ∷ 0x00 ∷ 0x00 ∷ 0x05 ∷ 0x01 ∷ 0x00 ∷ 0x09 ∷ 0x00 ∷ 0x00 ∷ 0x00 ∷ [];
+      order = 0 ∷ 0 ∷ 0 ∷ [];
+      answers = 0 ∷ 0 ∷ 0 ∷ [];
+    }
     -- READ does not wait for a sibling; in an own FINISH body it waits for a child from before too.
     ∷ record {
       table = 0x02 ∷ 0x05 ∷ 0x01 ∷ 0x00 ∷ 0x05 ∷ 0x01 ∷ 0x00 ∷ 0x00 ∷ 0x08 ∷ 0x00 ∷ 0x00 ∷ 0x0A ∷ 0x00 ∷ 0x00 ∷ [];

@@ -143,6 +143,8 @@ handMade =
     ∷ refused (0x01 ∷ 0x03 ∷ 0x00 ∷ 0x00 ∷ []) (withCounts 2 1 0 0 startState) 0 17 1
     ∷ accepted (0x02 ∷ 0x05 ∷ 0x01 ∷ 0x01 ∷ 0x00 ∷ 0x00 ∷ []) crowded 0 1 (Accepted (Faulted F1))
     (withCounts 1 64 0 0 (change 0 (λ a. stopped a (Faulted F1)) crowded))
+    -- A clock that the child holds under another name is the same clock.
+    ∷ refused pair (change 1 (λ a. withHold 4 (holdOn 0 0 Live) (withHold 0 noHold a)) paired) 0 16 2
     -- 16 before 17: the activity that waits is not in the ready set. At a meeting and live, it waits for itself.
     ∷ refused pair (withCounts 8 2 1 0 paired) 0 16 2
     ∷ refused pair (change 0 (withHold 0 (holdOn 65535 0 Quiesced)) (change 1 (withHold 0 (holdOn 65535 0 Live)) paired)) 0 16 2

@@ -289,23 +289,25 @@ firstAnswers = running ∷ running ∷ atBarrier ∷ atBarrier ∷ running ∷ [
 abbrev secondAnswers : List Answer
 secondAnswers = firstAnswers ++ (running ∷ atBarrier ∷ waits ∷ atBarrier ∷ running ∷ running ∷ [])
 
--- The commands of a line of four: ACC 2 0, ASYNC of the next, then the command given under name 2; each of the others but the last spawns the next, and ends.
+-- The commands of a line of five: ACC 2 0, ASYNC of the next, then the command given under name 2; each of the others but the last spawns the next, and ends.
 abbrev family : ℕ → List ℕ
-family op = 0x04 ∷ 0x08 ∷ 0x02 ∷ 0x00 ∷ 0x05 ∷ 0x01 ∷ 0x00 ∷ op ∷ 0x02 ∷ 0x00 ∷ 0x05 ∷ 0x02 ∷ 0x00 ∷ 0x00 ∷ 0x05 ∷ 0x03 ∷ 0x00 ∷ 0x00 ∷ 0x00 ∷ []
+family op =
+    0x05 ∷ 0x08 ∷ 0x02 ∷ 0x00 ∷ 0x05 ∷ 0x01 ∷ 0x00 ∷ op ∷ 0x02 ∷ 0x00 ∷ 0x05 ∷ 0x02 ∷ 0x00 ∷ 0x00 ∷ 0x05 ∷ 0x03 ∷ 0x00 ∷ 0x00 ∷ 0x05 ∷ 0x04 ∷ 0x00 ∷ 0x00 ∷ 0x00 ∷ []
 
--- It waits for the child, and at last for the great-grandchild, the others having ended.
+-- It waits for the child, then for the great-grandchild and for its child, the others having ended.
 abbrev reading : ℕ → Run
 reading op =
     record {
       table = family op;
-      order = 0 ∷ 0 ∷ 0 ∷ 1 ∷ 1 ∷ 2 ∷ 2 ∷ 0 ∷ 3 ∷ 0 ∷ 0 ∷ [];
-      answers = running ∷ running ∷ waits ∷ running ∷ ended ∷ running ∷ ended ∷ waits ∷ ended ∷ running ∷ ended ∷ [];
+      order = 0 ∷ 0 ∷ 0 ∷ 1 ∷ 1 ∷ 2 ∷ 2 ∷ 0 ∷ 3 ∷ 3 ∷ 0 ∷ 4 ∷ 0 ∷ 0 ∷ [];
+      answers = running ∷ running ∷ waits ∷ running ∷ ended ∷ running ∷ ended ∷ waits ∷ running ∷ ended ∷ waits ∷ ended ∷ running ∷ ended ∷ [];
       after =
-          written 9 0 []
+          written 11 0 []
           (activity Ended 0 0 [] [] (0 ∷ 0 ∷ 1 ∷ [])
           ∷ activity Ended 0 0 [] [] (0 ∷ 0 ∷ 1 ∷ [])
           ∷ activity Ended 1 0 [] [] (0 ∷ 0 ∷ 1 ∷ [])
           ∷ activity Ended 2 0 [] [] (0 ∷ 0 ∷ 1 ∷ [])
+          ∷ activity Ended 3 0 [] [] (0 ∷ 0 ∷ 1 ∷ [])
           ∷ [])
           (holding 0 Sum 0 ∷ []);
     }
@@ -405,7 +407,7 @@ affected =
       after =
           written 4 0 (0 ∷ 0 ∷ 11 ∷ 0 ∷ 0 ∷ 0 ∷ 0 ∷ 0 ∷ 0 ∷ 7 ∷ 0 ∷ 4 ∷ 0 ∷ 0 ∷ 0 ∷ 11 ∷ []) (activity Running 0 11 (bottom 26 0 ∷ []) [] [] ∷ []) [];
     }
-    -- READ and RESET wait for a great-grandchild.
+    -- READ and RESET wait for a great-grandchild, and for its child.
     ∷ reading 0x0A
     ∷ reading 0x0B
     -- In a FINISH body that a REPEAT body runs: `first` and the runs left. The END waits for activity 2, inside, and not for activity 1.

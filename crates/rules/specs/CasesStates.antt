@@ -221,6 +221,7 @@ last =
     -- a clock's and an accumulator's number out of range, a phase over its limit
     ∷ change 63 (withHold 7 (holdOn 0 3 Live))
     ∷ change 63 (withHold 7 (holdOn 65536 2 Quiesced))
+    ∷ change 63 (withHold 3 (holdOn 65536 2 Live))
     ∷ change 63 (λ a. withNames a (set (replicate 8 0) 7 3))
     ∷ change 63 (λ a. withNames a (set (replicate 8 0) 4 3))
     -- a free name's phase and clock number
@@ -232,6 +233,7 @@ last =
     ∷ change 63 (withFrame 15 (frameAt 0 1 0 0))
     ∷ change 63 (withFrame 4 (frameAt 0 0 1 0))
     ∷ change 63 (withFrame 4 (frameAt 0 0 0 1))
+    ∷ change 63 (withFrame 9 (frameAt 0 1 0 0))
     -- the stack, the status and the spawner
     ∷ change 63 (onBody (bottom 3 1))
     ∷ change 63 (onBody (frameAt 0 1 1 0))

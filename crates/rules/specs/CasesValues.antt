@@ -69,6 +69,14 @@ valued =
       cells = 10 ∷ [];
       values = [];
     }
+    -- Modulo 2^32 within ATOM too: STORE 3, ADD 3.
+    ∷ record {
+      table = 0x01 ∷ 0x0C ∷ 0xFF ∷ 0xFF ∷ 0xFF ∷ 0xFF ∷ 0x10 ∷ 0x02 ∷ 0x0E ∷ 0x03 ∷ 0x0F ∷ 0x03 ∷ 0x00 ∷ [];
+      order = 0 ∷ 0 ∷ [];
+      hands = 4294967295 ∷ [];
+      cells = 0 ∷ 0 ∷ 0 ∷ 4294967294 ∷ [];
+      values = [];
+    }
     -- "A new accumulator holds 0, for minimum 4,294,967,295."
     ∷ record {
       table = 0x01 ∷ 0x08 ∷ 0x00 ∷ 0x00 ∷ 0x08 ∷ 0x01 ∷ 0x01 ∷ 0x08 ∷ 0x02 ∷ 0x02 ∷ 0x00 ∷ [];
