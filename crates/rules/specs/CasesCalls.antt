@@ -23,7 +23,6 @@ use Rattle.rules.specs.Steps.{base, startState, start, step, ready, regi
 use Rattle.rules.specs.Same.{sameAnswer, sameState}
 use Rattle.rules.specs.Written.{frameAt, bottom, holdOn, holding, onBody, activity, written, withHold, withStatus, withSpawner, withActs, withCounts, change, nest, nested, pair, paired, crowd, crowded}
 use Rattle.rules.specs.CasesValues.{beginsWith}
-use Rattle.rules.specs.CasesStates.{same}
 
 -- THE START
 
@@ -80,6 +79,9 @@ refused table s i number set = record { table = table; state = s; activity = i; 
 
 abbrev accepted : List ℕ → State → ℕ → ℕ → Answer → State → Handed
 accepted table s i set answer after = record { table = table; state = s; activity = i; answer = answer; after = after; number = 0; set = set }
+
+abbrev same : Activity → Activity
+same a = a
 
 -- READ as the first command of body 0; main, ended or not, owns an accumulator and has a child that has not ended.
 unfoldable pub reader : List ℕ
@@ -170,6 +172,7 @@ allFault (c ∷ cs) = let r = allFault cs in sameAnswer (step base (c .table) (c
 abbrev breach : Fault → List ℕ → State → Breach
 breach f table s = record { table = table; state = s; fault = f }
 
+-- Main as given, a child that has ended, and an accumulator that one of them owns.
 abbrev owner : ℕ → Activity → State
 owner i main = written 0 1 [] (main ∷ activity Ended 0 0 [] [] [] ∷ []) (holding 0 Sum i ∷ [])
 

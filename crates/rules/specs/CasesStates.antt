@@ -8,7 +8,6 @@ use Rattle.rules.specs.declared.state.Fault.the-variants.{F1, F7}
 use Rattle.rules.specs.declared.state.Status.the-variants.{Running, AtBarrier, Ended, Faulted}
 use Rattle.rules.specs.declared.state.Registration.the-variants.{Free, Live, Quiesced}
 use Rattle.rules.specs.declared.state.Operator.the-variants.{Sum, Maximum}
-use Rattle.rules.specs.declared.state.Activity.{Activity}
 use Rattle.rules.specs.declared.state.State.{State}
 use Rattle.rules.specs.Search.{listFrom}
 use Rattle.rules.specs.State.{answerNumber, noFrame, noFrames, noHold, noHolds}
@@ -42,9 +41,6 @@ changed table s changes = record { table = table; fit = s; unfit = map (λ (f : 
 abbrev apart : List ℕ → State → State → Broken
 apart table fit unfit = record { table = table; fit = fit; unfit = unfit ∷ [] }
 
-abbrev pub same : Activity → Activity
-same a = a
-
 -- CLAUSE BY CLAUSE
 
 unfoldable pub broken : List Broken
@@ -53,8 +49,6 @@ broken =
     apart crowd crowded (withCounts 0 65 0 0 crowded)
     ∷ apart nest (withCounts 2 1 16 0 nested) (withCounts 2 1 17 0 nested)
     ∷ apart nest (withCounts 2 1 0 16 nested) (withCounts 2 1 0 17 nested)
-    -- `first` has no lower bound
-    ∷ apart nest (change 0 (withFrame 1 (frameAt 0 1 0 0)) nested) (change 0 (withFrame 1 (frameAt 0 1 0 2)) nested)
     ∷ apart deep (deepest 16) (deepest 17)
     -- ".. or phase is over its limit (phases 65,535)"
     ∷ apart pair (change 1 (withHold 0 (holdOn 65535 0 Live)) paired) (change 1 (withHold 0 (holdOn 65536 0 Live)) paired)
@@ -68,7 +62,8 @@ broken =
     -- "an ended one has a body or a clock"; a faulted one too
     ∷ apart pair (change 1 (λ a. stopped a (Faulted F1)) paired) (change 1 (λ a. withHolds a (Faulted F1) noHolds) paired)
     ∷ apart pair (change 1 (λ a. stopped a Ended) paired) (change 1 (λ a. withStatus Ended (withFrames a 0 noFrames)) paired)
-    -- "an unmade thing is named": an activity as an accumulator's owner
+    -- "an unmade thing is named": more activities at the beginning of a finish than were made (fewer are no breach); an activity as an accumulator's owner
+    ∷ apart nest (change 0 (withFrame 1 (frameAt 0 1 0 0)) nested) (change 0 (withFrame 1 (frameAt 0 1 0 2)) nested)
     ∷ apart pair (withCounts 3 2 1 1 (changeAcc 0 (holding 0 Sum 1) paired)) (withCounts 3 2 1 1 (changeAcc 0 (holding 0 Sum 2) paired))
     ∷ apart pair (withCounts 3 2 1 16 (changeAcc 15 (holding 7 Maximum 1) paired)) (withCounts 3 2 1 16 (changeAcc 15 (holding 7 Maximum 2) paired))
     ∷ []
@@ -90,9 +85,8 @@ stacked =
     ∷ change 0 (λ a. withFrames a 2 (frameAt 0 0 0 0 ∷ frameAt 0 0 0 1 ∷ replicate 14 noFrame))
     -- "a standing at a meeting is not on NEXT"
     ∷ change 0 (withStatus AtBarrier)
-    -- "an unmade thing is named": an accumulator, and more activities at the beginning of a finish than were made
+    -- "an unmade thing is named": an accumulator
     ∷ change 0 (λ a. withNames a (1 ∷ replicate 7 0))
-    ∷ change 0 (withFrame 1 (frameAt 0 1 0 2))
     -- "an unused entry is not 0": the runs and `first` of a frame that has none, main's spawner
     ∷ change 0 (withFrame 0 (frameAt 0 0 1 0))
     ∷ change 0 (withFrame 0 (frameAt 0 0 0 1))
@@ -106,8 +100,8 @@ stacked =
 unfoldable pub every : List ℕ
 every =
     0x02 ∷ 0x01 ∷ 0x02 ∷ 0x01 ∷ 0x03 ∷ 0x01 ∷ 0x04 ∷ 0x01 ∷ 0x05 ∷ 0x01 ∷ 0x00 ∷ 0x08 ∷ 0x01 ∷ 0x00 ∷ 0x09 ∷ 0x01 ∷ 0x0A ∷ 0x01 ∷ 0x0B ∷ 0x01
-    ∷ 0x0C ∷ 0x00 ∷ 0x00 ∷ 0x00 ∷ 0x00 ∷ 0x0D ∷ 0x01
-    ∷ 0x0E ∷ 0x01 ∷ 0x0F ∷ 0x01 ∷ 0x10 ∷ 0x01 ∷ 0x0D ∷ 0x01 ∷ 0x06 ∷ 0x01 ∷ 0x07 ∷ 0x02 ∷ 0x01 ∷ 0x00 ∷ 0x00 ∷ []
+    ∷ 0x0C ∷ 0x00 ∷ 0x00 ∷ 0x00 ∷ 0x00 ∷ 0x0D ∷ 0x01 ∷ 0x0E ∷ 0x01 ∷ 0x0F ∷ 0x01 ∷ 0x10 ∷ 0x01 ∷ 0x0D ∷ 0x01 ∷ 0x06 ∷ 0x01 ∷ 0x07 ∷ 0x02 ∷ 0x01
+    ∷ 0x00 ∷ 0x00 ∷ []
 
 -- Activity 63 on body 1, above the command at a place of body 0.
 abbrev above : ℕ → State
