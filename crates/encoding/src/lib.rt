@@ -7,11 +7,11 @@ ghost use Rattle.encoding.specs.Encode.{encodeState};
 ghost use Rattle.encoding.specs.Decode.{decodedOf};
 use rules::state::State;
 
-mod numbers; // numbers.rt: numbers of more than one byte, and reserved bytes
-mod frames; // frames.rt: the bodies on a stack
-mod holds; // holds.rt: the clock names
-mod accumulators; // accumulators.rt: the accumulators
-mod activities; // activities.rt: the activities
+pub mod numbers; // numbers.rt: numbers of more than one byte, and reserved bytes
+pub mod frames; // frames.rt: the bodies on a stack
+pub mod holds; // holds.rt: the clock names
+pub mod accumulators; // accumulators.rt: the accumulators
+pub mod activities; // activities.rt: the activities
 mod fields; // fields.rt: the fields of a state
 
 // What bytes encode: a state, or none and then the state of zeros.
