@@ -4,12 +4,12 @@ ghost use Rattle.rules.specs.declared.state.State.{State};
 ghost use Rattle.rules.specs.State.{accumulator};
 ghost use Rattle.rules.specs.Effects.{withValue};
 ghost use Rattle.fields.specs.Lent.{Reads, Writes, withAcc};
-use parts::empty::no_accumulator;
-use parts::numbers::operator_of;
-use rules::state::Accumulator;
 use super::bytes::get1;
 use super::bytes::get4;
 use super::bytes::put4;
+use parts::empty::no_accumulator;
+use parts::numbers::operator_of;
+use rules::state::Accumulator;
 
 pub fn accumulator_at(state: &[u8], n: usize) -> Accumulator
     ensures { λ r. ⌜ (n < 16 → Reads (λ (s : State). accumulator s n) (now (state .entry)) r) ⌝ }

@@ -4,17 +4,17 @@ ghost use Rattle.rules.specs.declared.state.Activity.{Activity};
 ghost use Rattle.rules.specs.State.{bound};
 ghost use Rattle.rules.specs.Effects.{withRegister};
 ghost use Rattle.fields.specs.Lent.{ReadsAct, WritesAct, withStatus, withDepth, withSpawner, withName, cleared};
-use encoding::activities::fault_byte;
-use encoding::activities::status_byte;
-use encoding::activities::status_of;
-use encoding::numbers::put_zeros;
-use rules::state::Status;
 use super::bytes::get1;
 use super::bytes::get4;
 use super::bytes::put1;
 use super::bytes::put2;
 use super::bytes::put4;
 use super::bytes::wide;
+use encoding::activities::fault_byte;
+use encoding::activities::status_byte;
+use encoding::activities::status_of;
+use encoding::numbers::put_zeros;
+use rules::state::Status;
 
 pub fn register_at(state: &[u8], i: usize) -> u32
     ensures { λ r. ⌜ ReadsAct (λ (a : Activity). a .register) (now (state .entry)) i r ⌝ }
@@ -105,6 +105,7 @@ pub fn put_name(state: &mut [u8], i: usize, n: usize, v: u8)
     put1(state, 472 + 208 * i + n, v);
 }
 
+// No clocks and no bodies.
 pub fn clear_own(state: &mut [u8], i: usize)
     ensures { λ _. ⌜ WritesAct cleared (now (state .entry)) (now (state .exit)) i ⌝ }
 {

@@ -5,6 +5,7 @@ ghost use Rattle.fields.specs.Lent.{Gets, Puts};
 use encoding::numbers::number;
 use encoding::numbers::put_number;
 
+// A byte as a number of 16 bits.
 pub fn wide(x: u8) -> u16
     ensures { λ r. ⌜ (r ≡ x) × (r < 256) ⌝ }
 {

@@ -3,10 +3,10 @@ ghost use Prim.Native.Nat.{_<_};
 ghost use Rattle.rules.specs.declared.state.Activity.{Activity};
 ghost use Rattle.rules.specs.State.{frame};
 ghost use Rattle.fields.specs.Lent.{ReadsAct, WritesAct, withFrame, onward};
-use parts::empty::no_frame;
-use rules::state::Frame;
 use super::bytes::get2;
 use super::bytes::put2;
+use parts::empty::no_frame;
+use rules::state::Frame;
 
 pub fn frame_at(state: &[u8], i: usize, d: usize) -> Frame
     ensures { λ r. ⌜ (d < 16 → ReadsAct (λ (a : Activity). frame a d) (now (state .entry)) i r) ⌝ }

@@ -3,11 +3,11 @@ ghost use Prim.Native.Nat.{_<_};
 ghost use Rattle.rules.specs.declared.state.Activity.{Activity};
 ghost use Rattle.rules.specs.State.{hold};
 ghost use Rattle.fields.specs.Lent.{ReadsAct, WritesAct, withHold};
+use super::bytes::get1;
+use super::bytes::get2;
 use encoding::holds::registration_of;
 use parts::empty::no_hold;
 use rules::state::Hold;
-use super::bytes::get1;
-use super::bytes::get2;
 
 pub fn hold_at(state: &[u8], i: usize, k: usize) -> Hold
     ensures { λ r. ⌜ (k < 8 → ReadsAct (λ (a : Activity). hold a k) (now (state .entry)) i r) ⌝ }

@@ -1,0 +1,2 @@
+// Commands on clocks: NEXT, CLOCK, RESUME and DROP, in the lent bytes.
+pub mod next; // next.rt: NEXT

@@ -1,0 +1,4 @@
+pub mod Withs
+pub mod Standings
+pub mod Going
+pub mod Failing
