@@ -1,0 +1,2 @@
+// Waiting, read in the lent bytes: number 16.
+pub mod behind; // behind.rt: whether a holder of an own clock is behind
