@@ -1,1 +1,2 @@
 pub mod Behinds
+pub mod Insides

@@ -1,2 +1,3 @@
 // Waiting, read in the lent bytes: number 16.
 pub mod behind; // behind.rt: whether a holder of an own clock is behind
+pub mod inside; // inside.rt: whether someone inside a finish has not ended
