@@ -50,10 +50,12 @@ loop-again c =
     let a = g .before .before in
     let t = a .before in
     let j = t .before in
-    let v = j .loop .inv in
-    (omega arith, omega arith,
-    inside-ended (j .before .before .before .before .before .activities-of .ensures) (v .2) (v .0) (v .1) (t .loop-test .taken) (a .spawner-at .ensures) (g .joins .ensures)
-    (c .before .before .if5 .taken) (c .before .is-unended .ensures) (c .if6 .left))
+    let v = j .loop .inv in (
+      omega arith,
+      omega arith,
+      inside-ended (j .before .before .before .before .before .activities-of .ensures) (v .2) (v .0) (v .1) (t .loop-test .taken) (a .spawner-at .ensures) (g .joins .ensures)
+          (c .before .before .if5 .taken) (c .before .is-unended .ensures) (c .if6 .left),
+    )
 
 loop-again-2 : tie.Need-loop-again-2 Inv-loop μ-loop
 loop-again-2 c =
@@ -61,9 +63,11 @@ loop-again-2 c =
     let a = g .before .before in
     let t = a .before in
     let j = t .before in
-    let v = j .loop .inv in
-    (omega arith, omega arith,
-    inside-out (j .before .before .before .before .before .activities-of .ensures) (v .2) (v .0) (v .1) (t .loop-test .taken) (a .spawner-at .ensures) (g .joins .ensures) (c .if5 .left))
+    let v = j .loop .inv in (
+      omega arith,
+      omega arith,
+      inside-out (j .before .before .before .before .before .activities-of .ensures) (v .2) (v .0) (v .1) (t .loop-test .taken) (a .spawner-at .ensures) (g .joins .ensures) (c .if5 .left),
+    )
 
 returns-6 : tie.Need-returns-6 Inv-loop μ-loop
 returns-6 c = inside-end (c .before .before .before .before .before .before .activities-of .ensures) (c .before .loop .inv .2) (c .loop-test .left)
