@@ -1,2 +1,4 @@
+pub mod Pushing
+pub mod Ends
 pub mod Giving
 pub mod Spawns
