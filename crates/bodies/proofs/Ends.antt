@@ -5,12 +5,11 @@ use native.Mathlib.Nat.{add-assoc}
 use mathlib.Core.Path.{_≡_, refl, sym, ap, _∙_, subst}
 use mathlib.Core.List.{List}
 use mathlib.Core.Bool.{Bool, true, false, cond}
-use lib.ListN.{set}
 use lib.Seq.{getD-set-other}
-use lib.Dec.{ltb, leb}
+use lib.Dec.{leb}
 use borrow.Author.Tests.{le-leb, lt-leb, lt-ltb, le-ltb}
 use Rattle.program.specs.Command.{rows, rowAt, rowOf, isEnd, width, held}
-use Rattle.program.specs.Bodies.{Program, programOf}
+use Rattle.program.specs.Bodies.{programOf}
 use Rattle.program.specs.declared.command.Command.{Command}
 use Rattle.program.specs.declared.command.Command.the-variants.{End}
 use Rattle.rules.specs.declared.state.Status.the-variants.{Ended}

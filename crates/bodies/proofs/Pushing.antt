@@ -15,10 +15,10 @@ use Rattle.rules.specs.State.{act}
 use Rattle.rules.specs.Faults.{faultFor}
 use Rattle.rules.specs.Effects.{alone, past, pushed, repeatOf, effectOf}
 use Rattle.guards.specs.Exceeding.{overfull}
-use Rattle.fields.specs.Lent.{Lent, Reads, ReadsAct, WritesAct, withAct, withSteps, withFrame, withDepth}
+use Rattle.fields.specs.Lent.{Lent, Reads, ReadsAct, WritesAct, withAct, withFrame, withDepth}
 use Rattle.moves.specs.Moves.{Standing, Turned, Counts, GoesOn}
 use Rattle.bodies.specs.Pushes.{Pushes}
-use Rattle.moves.proofs.Withs.{then, steps-with}
+use Rattle.moves.proofs.Withs.{then}
 use Rattle.moves.proofs.Standings.{few, fault-here, plain, calm, steps-room, went, done-alone}
 
 abbrev pub begun : ℕ → ℕ → ℕ → Frame

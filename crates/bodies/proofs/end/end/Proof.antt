@@ -1,5 +1,4 @@
 -- Number 17, and the three ways of a body that ends.
-use native.Mathlib.Omega.{arith}
 use mathlib.Core.Path.{refl, sym, _∙_}
 use Rattle.moves.proofs.Standings.{over, spent}
 use Rattle.bodies.proofs.Ends.{ended, reran, popped-out}
