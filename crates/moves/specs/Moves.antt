@@ -10,10 +10,11 @@ use Rattle.program.specs.declared.command.Command.{Command}
 use Rattle.rules.specs.declared.state.Fault.{Fault}
 use Rattle.rules.specs.declared.state.Activity.{Activity}
 use Rattle.rules.specs.declared.state.State.{State}
-use Rattle.rules.specs.State.{faultNumber, act, top, answerNumber}
+use Rattle.rules.specs.State.{faultNumber, act, top, bound, answerNumber}
 use Rattle.rules.specs.WellFormed.{wellFormed}
 use Rattle.rules.specs.Tree.{nextOffset}
-use Rattle.rules.specs.Effects.{withTop}
+use Rattle.rules.specs.Faults.{readFault}
+use Rattle.rules.specs.Effects.{withTop, envOf}
 use Rattle.rules.specs.Steps.{base, at, fault, refusal, advance}
 use Rattle.guards.specs.Known.{Known}
 use Rattle.fields.specs.Lent.{Lent, withAct, withSteps, onward}
@@ -59,3 +60,7 @@ pub record Fails (f : Fault) (b c : List ℕ) (work i r : ℕ) : Type 0 where
 -- The turn of a command that meets no fault.
 pub record Does (command : Command) (b c : List ℕ) (work i r : ℕ) : Type 0 where
   pub does : (p : Program) (s : State) → Lent b s → Standing p s i work command → fault p s i ≡ 0 → Turned p s i c r
+
+-- The fault of READ or RESET of a name of activity i, where what stands under the name was made.
+pub record ReadFault (b : List ℕ) (i n r : ℕ) : Type 0 where
+  pub reads : (s : State) → Lent b s → i < 64 → bound (act s i) n ≤ 16 → r ≡ readFault (envOf s) i (act s i) n
