@@ -1,7 +1,7 @@
 // ATOM.
 ghost use mathlib.Core.Path.{_≡_};
-ghost use Prim.Native.Nat.{_<_, _+_};
-ghost use lib.ListN.{getD, drop};
+ghost use Prim.Native.Nat.{_+_};
+ghost use lib.ListN.{getD};
 ghost use Rattle.program.specs.declared.command.Command.the-variants.{Atom};
 ghost use Rattle.moves.specs.Moves.{TurnsIn};
 ghost use Rattle.values.specs.Touched.{TouchesBy, TouchesAll, TouchesIn};
@@ -48,7 +48,7 @@ fn touch_each(code: &[u8], offset: u16, k: u8, state: &mut [u8], i: usize)
     ensures { λ _. ⌜ TouchesAll (now (code .entry)) (offset + 2) k (now (state .entry)) (now (state .exit)) i ⌝ }
 {
     let at = offset as usize + 2;
-    let count = wide(k) as usize;
+    let count = k as usize;
     let mut j: usize = 0;
     while j < count {
         let q = at + 2 * j;

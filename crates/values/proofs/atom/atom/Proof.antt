@@ -1,96 +1,36 @@
+-- Number 17, the frame at the top, the commands, and on.
+use native.Mathlib.Omega.{arith}
+use mathlib.Core.Path.{refl, sym, _∙_}
+use Rattle.moves.proofs.Standings.{few, some, over, spent}
+use Rattle.values.proofs.Atoms.{atom-done}
 use borrow.Author.Needs.{needs}
 use Rattle.values.proofs.atom.atom.Statement.{statement}
 use Rattle.values.proofs.atom.atom.Tie as tie
-use Rattle.values.proofs.atom.atom.Reads as reads
-use Rattle.values.proofs.atom.atom.Lts as lts
-use Rattle.fields.proofs.activities.depth_at.Reads as depth-at-reads
-use Rattle.fields.proofs.bytes.wide.Reads as wide-reads
-use Rattle.fields.proofs.frames.frame_at.Reads as frame-at-reads
-use Rattle.moves.proofs.go_on.Reads as go-on-reads
-use Rattle.moves.proofs.is_spent.Reads as is-spent-reads
-use Rattle.values.proofs.atom.touch_all.Reads as touch-all-reads
 
--- src/atom.rt:81:8
-is-spent-requires : tie.Need-is-spent-requires
-is-spent-requires c κs = search needs
-
--- src/atom.rt:82:9
-same-length : tie.Need-same-length
-same-length c = search needs
-
--- src/atom.rt:82:9
 returns : tie.Need-returns
-returns c = ?
+returns c = record { turns = λ k s l w. over w l (spent w (sym (c .if1 .taken) ∙ c .before .is-spent .ensures .reads s l)) }
 
--- src/atom.rt:84:17
-depth-at-requires : tie.Need-depth-at-requires
-depth-at-requires c κs = search needs
-
--- src/atom.rt:84:17
-cast-depth : tie.Need-cast-depth
-cast-depth c = search needs
-
--- src/atom.rt:86:9
-same-length-2 : tie.Need-same-length-2
-same-length-2 c = search needs
-
--- src/atom.rt:86:9
 returns-2 : tie.Need-returns-2
-returns-2 c = ?
+returns-2 c = record { turns = λ k s l w. absurd (let z : ⊥ = omega (arith, c .if2 .taken, c .before .depth-at .ensures .reads s l (few w), some w) in z) }
 
--- src/atom.rt:88:32
-sub-frame-at : tie.Need-sub-frame-at
-sub-frame-at c = search needs
-
--- src/atom.rt:88:9
-frame-at-requires : tie.Need-frame-at-requires
-frame-at-requires c κs = search needs
-
--- src/atom.rt:89:5
-touch-all-requires : tie.Need-touch-all-requires
-touch-all-requires c κs = search needs
-
--- src/atom.rt:90:29
-wide-requires : tie.Need-wide-requires
-wide-requires c κs = search needs
-
--- src/atom.rt:90:25
-mul-go-on : tie.Need-mul-go-on
-mul-go-on c = search needs
-
--- src/atom.rt:90:21
-add-go-on : tie.Need-add-go-on
-add-go-on c = search needs
-
--- src/atom.rt:90:5
-go-on-requires : tie.Need-go-on-requires
-go-on-requires c κs = search needs
-
--- src/atom.rt:78:1
-same-length-3 : tie.Need-same-length-3
-same-length-3 c = search needs
-
--- src/atom.rt:78:1
 returns-3 : tie.Need-returns-3
-returns-3 c = ?
+returns-3 c =
+    let g = c .before .before in
+    let v = g .before in
+    let a = v .before .before .before .before in
+    let f = a .before .before in
+    let d = f .before .before .before in
+    let e = d .before .before in
+    record {
+      turns =
+          λ k s l w.
+          atom-done k w l (sym (e .if1 .left) ∙ e .before .is-spent .ensures .reads s l) (d .depth-at .ensures) (f .frame-at .ensures) (a .touch-all .ensures) (v .wide .ensures .0) refl (g .go-on .ensures);
+    }
 
 pub atom-spec : {M : Type 1} → statement M
 atom-spec =
     tie.close
-    (tie.spec
-    is-spent-requires
-    same-length
-    returns
-    depth-at-requires
-    cast-depth
-    same-length-2
-    returns-2
-    sub-frame-at
-    frame-at-requires
-    touch-all-requires
-    wide-requires
-    mul-go-on
-    add-go-on
-    go-on-requires
-    same-length-3
-    returns-3)
+    (tie.spec (λ is-spent-requires κs. search needs) (λ same-length. search needs) returns (λ depth-at-requires κs. search needs)
+    (λ cast-depth. search needs) (λ same-length-2. search needs) returns-2 (λ sub-frame-at. search needs) (λ frame-at-requires κs. search needs)
+    (λ touch-all-requires κs. search needs) (λ wide-requires κs. search needs) (λ mul-go-on. search needs) (λ add-go-on. search needs)
+    (λ go-on-requires κs. search needs) (λ same-length-3. search needs) returns-3)
