@@ -1,2 +1,3 @@
 // Commands on clocks: NEXT, CLOCK, RESUME and DROP, in the lent bytes.
 pub mod next; // next.rt: NEXT
+pub mod rehold; // rehold.rt: RESUME and DROP
