@@ -40,7 +40,7 @@ fn accumulator_at(bytes: &[u8]) -> Accumulator
 }
 
 // The bytes of an accumulator.
-fn put_accumulator(a: Accumulator, out: &mut [u8])
+pub fn put_accumulator(a: Accumulator, out: &mut [u8])
     requires { ⌜ length (now out) ≡ 24 ⌝ }
     ensures { λ _. ⌜ now (out .exit) ≡ encodeAccumulator a ⌝ }
 {

@@ -18,7 +18,7 @@ use Rattle.rules.proofs.Lists.{Stored, new, old, stored}
 use Rattle.encoding.specs.Bytes.{bytesOf, numberOf, part, encodeEach}
 use Rattle.encoding.specs.Decode.{frameAt, statusOf}
 use Rattle.encoding.specs.Encode.{version, statusByte, faultByte, encodeFrame, encodeHold, encodeAccumulator, encodeActivity, encodeState}
-use Rattle.fields.specs.Lent.{FineActivity, Fine, Lent, Gets, Puts, withAct, withSteps, withAcc, withActivities, withSpawner, withName, cleared, withStatus, withHold, withFrame, withDepth, onward}
+use Rattle.fields.specs.Lent.{FineActivity, Fine, Lent, Gets, Puts, withAct, withSteps, withAcc, withActivities, withClocks, withAccumulators, withCell, withSpawner, withName, cleared, withStatus, withHold, withFrame, withDepth, onward}
 use Rattle.encoding.proofs.NumberLaws.{bytesOf-length, number-of-bytes}
 use Rattle.encoding.proofs.FieldLaws.{sized}
 use Rattle.encoding.proofs.EnumLaws.{status-there}
@@ -471,6 +471,132 @@ activities-put {s = s} {n = n} l p h =
           };
     }
 
+pub clocks-there : {b : List ℕ} {s : State} {r : ℕ} → Lent b s → Gets 1 b 2 r → r ≡ s .clocks
+unfolding encodeState bytesOf
+clocks-there {b} {s} l g = g .gets (lent-length l) (omega arith) ∙ rw (l .bytes) (single (s .clocks))
+
+pub clocks-put : {b c : List ℕ} {s : State} {n : ℕ} → Lent b s → Puts 1 b c 2 n → n < 256 → Lent c (withClocks s n)
+unfolding encodeState withClocks bytesOf
+clocks-put {s = s} {n = n} l p h =
+    let q : n % 256 ≡ n = omega arith in
+    record {
+      bytes = p .puts (lent-length l) (omega arith) ∙ rw (l .bytes, q);
+      fine =
+          record {
+            acts64 = l .fine .acts64;
+            accs16 = l .fine .accs16;
+            cells16 = l .fine .cells16;
+            steps = l .fine .steps;
+            cells = l .fine .cells;
+            values = l .fine .values;
+            each = l .fine .each;
+          };
+    }
+
+pub accumulators-there : {b : List ℕ} {s : State} {r : ℕ} → Lent b s → Gets 1 b 3 r → r ≡ s .accumulators
+unfolding encodeState bytesOf
+accumulators-there {b} {s} l g = g .gets (lent-length l) (omega arith) ∙ rw (l .bytes) (single (s .accumulators))
+
+pub accumulators-put : {b c : List ℕ} {s : State} {n : ℕ} → Lent b s → Puts 1 b c 3 n → n < 256 → Lent c (withAccumulators s n)
+unfolding encodeState withAccumulators bytesOf
+accumulators-put {s = s} {n = n} l p h =
+    let q : n % 256 ≡ n = omega arith in
+    record {
+      bytes = p .puts (lent-length l) (omega arith) ∙ rw (l .bytes, q);
+      fine =
+          record {
+            acts64 = l .fine .acts64;
+            accs16 = l .fine .accs16;
+            cells16 = l .fine .cells16;
+            steps = l .fine .steps;
+            cells = l .fine .cells;
+            values = l .fine .values;
+            each = l .fine .each;
+          };
+    }
+
+-- CELLS
+
+-- before them
+abbrev cell-head : State → List ℕ
+cell-head s = (version ∷ s .activities ∷ s .clocks ∷ s .accumulators ∷ []) ++ bytesOf 4 (s .steps) ++ replicate 8 0
+
+-- from them on
+abbrev cell-tail : State → List ℕ
+cell-tail s = encodeEach encodeAccumulator (s .accs)
+
+module _ (s : State) (w : Fine s) where
+  cell-head-length : length (cell-head s) ≡ 16
+  unfolding bytesOf
+  cell-head-length = refl
+
+  cells-length : length (encodeEach (bytesOf 4) (s .cells)) ≡ 64
+  cells-length = entries (bytesOf 4) 4 16 64 0 (s .cells) (λ n g. bytesOf-length 4 (getD (s .cells) n 0)) (w .cells16) refl
+
+  cells-front : length (cell-head s ++ encodeEach (bytesOf 4) (s .cells)) ≡ 80
+  cells-front = length-append (cell-head s) (encodeEach (bytesOf 4) (s .cells)) ∙ rw (cell-head-length, cells-length)
+
+  cell-inside : (d : ℕ) → d < 16 → 16 + (4 * d + 0) + 4 ≤ length (state-head s)
+  cell-inside d j = rw (state-head-length s w) (omega arith)
+
+  cell-before : (d : ℕ) → d < 16 → 16 + (4 * d + 0) + 4 ≤ length (cell-head s ++ encodeEach (bytesOf 4) (s .cells))
+  cell-before d j = rw cells-front (omega arith)
+
+  pub part-cell : (d : ℕ) → d < 16 → part (encodeState s) (16 + (4 * d + 0)) 4 ≡ part (bytesOf 4 (getD (s .cells) d 0)) 0 4
+  unfolding encodeState
+  part-cell d j =
+      part-first (state-head s) (encodeEach encodeActivity (s .acts)) (16 + (4 * d + 0)) 4 (cell-inside d j)
+      ∙ part-first (cell-head s ++ encodeEach (bytesOf 4) (s .cells)) (cell-tail s) (16 + (4 * d + 0)) 4 (cell-before d j)
+      ∙ ap (λ k. part (cell-head s ++ encodeEach (bytesOf 4) (s .cells)) (k + (4 * d + 0)) 4) (sym cell-head-length)
+      ∙ part-second (cell-head s) (encodeEach (bytesOf 4) (s .cells)) (4 * d + 0) 4
+      ∙ part-inside (bytesOf 4) 4 0 (s .cells) (λ k g. bytesOf-length 4 (getD (s .cells) k 0)) d 0 4 (rw (w .cells16) j) (omega arith)
+
+  pub put-cell : (d v : ℕ) → d < 16 → putMid (16 + (4 * d + 0)) 4 (encodeState s) (bytesOf 4 v) ≡ encodeState (withCell s d v)
+  unfolding encodeState withCell bytesOf
+  put-cell d v j =
+      put-first (state-head s) (encodeEach encodeActivity (s .acts)) (bytesOf 4 v) (16 + (4 * d + 0)) 4 (cell-inside d j)
+      ∙ ap (λ r. r ++ encodeEach encodeActivity (s .acts))
+      (put-first (cell-head s ++ encodeEach (bytesOf 4) (s .cells)) (cell-tail s) (bytesOf 4 v) (16 + (4 * d + 0)) 4 (cell-before d j)
+      ∙ ap (λ r. r ++ cell-tail s)
+      (ap (λ k. putMid (k + (4 * d + 0)) 4 (cell-head s ++ encodeEach (bytesOf 4) (s .cells)) (bytesOf 4 v)) (sym cell-head-length)
+      ∙ put-second (cell-head s) (encodeEach (bytesOf 4) (s .cells)) (bytesOf 4 v) (4 * d + 0) 4
+      ∙ ap (λ r. cell-head s ++ r)
+      (put-inside (bytesOf 4) 4 0 (s .cells) (λ k g. bytesOf-length 4 (getD (s .cells) k 0)) d 0 4 (bytesOf 4 v) v (rw (w .cells16) j) (omega arith) refl)))
+
+pub fine-cell : {s : State} (d v : ℕ) → Fine s → v < 2 ^ 32 → Fine (withCell s d v)
+unfolding withCell
+fine-cell {s} d v w h =
+    record {
+      acts64 = w .acts64;
+      accs16 = w .accs16;
+      cells16 = length-set (s .cells) d v ∙ w .cells16;
+      steps = w .steps;
+      cells = λ k. go k (stored (s .cells) d v k 0);
+      values = w .values;
+      each = w .each;
+    }
+  where
+    go : (k : ℕ) → Stored (s .cells) d v k 0 → getD (set (s .cells) d v) k 0 < 2 ^ 32
+    go k (new e p) = rw p h
+    go k (old p) = rw p (w .cells k)
+
+module _ {b : List ℕ} {s : State} (l : Lent b s) {d : ℕ} (j : d < 16) where
+  pub cell-there : {at r : ℕ} → Gets 4 b at r → at ≡ 16 + 4 * d → r ≡ getD (s .cells) d 0
+  unfolding bytesOf
+  cell-there {at} g e =
+      let q : at ≡ 16 + (4 * d + 0) = omega arith in
+      g .gets (lent-length l) (rw e (omega arith))
+      ∙ ap numberOf (rw (q, l .bytes) (part-cell s (l .fine) d j))
+      ∙ number-of-bytes 4 (getD (s .cells) d 0) (l .fine .cells d)
+
+  pub cell-write : {c : List ℕ} {at v : ℕ} → Puts 4 b c at v → at ≡ 16 + 4 * d → v < 2 ^ 32 → Lent c (withCell s d v)
+  cell-write {c} {at} {v} g e h =
+      let q : at ≡ 16 + (4 * d + 0) = omega arith in
+      record {
+        bytes = g .puts (lent-length l) (rw e (omega arith)) ∙ rw (q, l .bytes) (put-cell s (l .fine) d v j);
+        fine = fine-cell d v (l .fine) h;
+      }
+
 -- ACCUMULATORS
 
 -- before them
@@ -570,3 +696,26 @@ module _ {b : List ℕ} {s : State} (l : Lent b s) {i : ℕ} (j : i < 64) where
       let z : e ≡ replicate 192 0 = q ∙ ap (λ (k : ℕ). replicate k 0) (sized b at 192 (at + 192 - at) (omega arith) (omega arith)) in
       subst (λ (r : List ℕ). Lent r (withAct s i (cleared (act s i)))) (sym (lent-back at 192 b e))
       (own-write l j {at = at} e 16 192 (cleared (act s i)) (omega arith) (omega arith) (rw z (clear-put (act s i) (mine l j))) (fine-cleared (mine l j)))
+
+-- A WHOLE ACCUMULATOR
+
+acc-whole : (g c : Accumulator) → putMid 0 24 (encodeAccumulator g) (encodeAccumulator c) ≡ encodeAccumulator c
+unfolding encodeAccumulator bytesOf
+acc-whole g c = refl
+
+-- twenty-four bytes lent from where it stands
+pub acc-write : {b : List ℕ} {s : State} → Lent b s → {n : ℕ} → n < 16 → (c : Accumulator) (e : List ℕ) → e ≡ encodeAccumulator c → c .value < 2 ^ 32
+    → let at = 80 + 24 * n in Lent (putMid at (at + 24 - at) b e) (withAcc s n c)
+acc-write {b} {s} l {n} j c e p h =
+    let at = 80 + 24 * n in
+    let q : at ≡ 80 + (24 * n + 0) = omega arith in
+    record {
+      bytes =
+          lent-back at 24 b e
+          ∙ rw (q, l .bytes) (put-acc s (l .fine) n 0 24 e c j (omega arith) (rw p (acc-whole (accumulator s n) c)));
+      fine = fine-acc n c (l .fine) h;
+    }
+
+pub spawner-there : (a : Activity) → numberOf (part (encodeActivity a) 6 1) ≡ a .spawner
+unfolding encodeActivity bytesOf
+spawner-there a = single (a .spawner)

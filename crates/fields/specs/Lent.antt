@@ -91,6 +91,42 @@ withActivities s n =
       accumulators = s .accumulators;
     }
 
+unfoldable pub withClocks : State → ℕ → State
+withClocks s n =
+    record {
+      cells = s .cells;
+      acts = s .acts;
+      accs = s .accs;
+      steps = s .steps;
+      activities = s .activities;
+      clocks = n;
+      accumulators = s .accumulators;
+    }
+
+unfoldable pub withAccumulators : State → ℕ → State
+withAccumulators s n =
+    record {
+      cells = s .cells;
+      acts = s .acts;
+      accs = s .accs;
+      steps = s .steps;
+      activities = s .activities;
+      clocks = s .clocks;
+      accumulators = n;
+    }
+
+unfoldable pub withCell : State → ℕ → ℕ → State
+withCell s d v =
+    record {
+      cells = set (s .cells) d v;
+      acts = s .acts;
+      accs = s .accs;
+      steps = s .steps;
+      activities = s .activities;
+      clocks = s .clocks;
+      accumulators = s .accumulators;
+    }
+
 abbrev pub withSpawner : Activity → ℕ → Activity
 withSpawner a spawner =
     record {

@@ -36,3 +36,16 @@ pub fn put_value(state: &mut [u8], n: usize, v: u32)
     }
     put4(state, 80 + 24 * n, v);
 }
+
+pub fn put_accumulator(state: &mut [u8], n: usize, a: Accumulator)
+    ensures { λ _. ⌜ (n < 16 → Writes (λ (s : State). withAcc s n a) (now (state .entry)) (now (state .exit))) ⌝ }
+{
+    if state.len() != 13776 {
+        return;
+    }
+    if 16 <= n {
+        return;
+    }
+    let at = 80 + 24 * n;
+    encoding::accumulators::put_accumulator(a, &mut state[at..at + 24]);
+}

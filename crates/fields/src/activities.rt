@@ -72,6 +72,15 @@ pub fn put_depth(state: &mut [u8], i: usize, d: u8)
     put1(state, 471 + 208 * i, d);
 }
 
+pub fn spawner_at(state: &[u8], i: usize) -> u8
+    ensures { λ r. ⌜ ReadsAct (λ (a : Activity). a .spawner) (now (state .entry)) i r ⌝ }
+{
+    if 64 <= i {
+        return 0;
+    }
+    get1(state, 470 + 208 * i)
+}
+
 pub fn put_spawner(state: &mut [u8], i: usize, w: u8)
     ensures { λ _. ⌜ WritesAct (λ (a : Activity). withSpawner a w) (now (state .entry)) (now (state .exit)) i ⌝ }
 {

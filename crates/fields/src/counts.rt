@@ -1,6 +1,6 @@
 // What a state counts: the steps taken, and the activities, clocks and accumulators made.
 ghost use Rattle.rules.specs.declared.state.State.{State};
-ghost use Rattle.fields.specs.Lent.{Reads, Writes, withSteps, withActivities};
+ghost use Rattle.fields.specs.Lent.{Reads, Writes, withSteps, withActivities, withClocks, withAccumulators};
 use super::bytes::get1;
 use super::bytes::get2;
 use super::bytes::put1;
@@ -28,4 +28,28 @@ pub fn put_activities(state: &mut [u8], n: u8)
     ensures { λ _. ⌜ Writes (λ (s : State). withActivities s n) (now (state .entry)) (now (state .exit)) ⌝ }
 {
     put1(state, 1, n);
+}
+
+pub fn clocks_of(state: &[u8]) -> u8
+    ensures { λ r. ⌜ Reads (λ (s : State). s .clocks) (now (state .entry)) r ⌝ }
+{
+    get1(state, 2)
+}
+
+pub fn put_clocks(state: &mut [u8], n: u8)
+    ensures { λ _. ⌜ Writes (λ (s : State). withClocks s n) (now (state .entry)) (now (state .exit)) ⌝ }
+{
+    put1(state, 2, n);
+}
+
+pub fn accumulators_of(state: &[u8]) -> u8
+    ensures { λ r. ⌜ Reads (λ (s : State). s .accumulators) (now (state .entry)) r ⌝ }
+{
+    get1(state, 3)
+}
+
+pub fn put_accumulators(state: &mut [u8], n: u8)
+    ensures { λ _. ⌜ Writes (λ (s : State). withAccumulators s n) (now (state .entry)) (now (state .exit)) ⌝ }
+{
+    put1(state, 3, n);
 }
