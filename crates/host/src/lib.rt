@@ -3,18 +3,18 @@
 ghost use mathlib.Core.Path.{_≡_};
 ghost use lib.ListN.{length};
 ghost use Rattle.rules.specs.Runs.{isAccepted};
-ghost use Rattle.host.specs.Calls.{unfitNumber, startNumber, startBytes, stepNumber, stepBytes, readyNumber, readySet, sheetNumber, sheetBytes, completionNumber, isDone, runNumber, runAnswers, runBytes};
+ghost use Rattle.host.specs.Calls.{unfitNumber, startNumber, startBytes, stepNumber, stepBytes, readyNumber, readySet, sheetNumber, sheetBytes, runNumber, runAnswers, runBytes};
 use encoding::decode;
 use encoding::encode;
 use machine::ready;
 use machine::registrations;
-use machine::run;
 use machine::start;
 use machine::step;
+use parts::empty::start_state;
 use parts::numbers::answer_number;
 use program::table::read_table;
 use rules::answer::Answer;
-use rules::answer::Completion;
+use turns::follow::follow;
 
 mod lists; // lists.rt: tables from lists of commands, and back
 mod sheet; // sheet.rt: the standing sheet as bytes
@@ -108,28 +108,6 @@ pub extern "C" fn stepmachine_registrations(table: &[u8], state: &[u8], sheet: &
     number
 }
 
-// The number of how a run ended: 13 where the answers have too little room.
-fn completion_number(completion: Completion) -> u8
-    ensures { λ r. ⌜ r ≡ completionNumber completion ⌝ }
-{
-    match completion {
-        Completion::Done => 0,
-        Completion::Refused(number) => number,
-        Completion::Short => 13,
-    }
-}
-
-// Whether a run came to its end.
-fn is_done(completion: Completion) -> bool
-    ensures { λ r. ⌜ r ≡ isDone completion ⌝ }
-{
-    match completion {
-        Completion::Done => true,
-        Completion::Refused(_) => false,
-        Completion::Short => false,
-    }
-}
-
 // A whole run from the start state: an answer for each step of the order, and the state after it. A refused run leaves both buffers as they were.
 #[no_mangle]
 pub extern "C" fn stepmachine_run(
@@ -145,11 +123,17 @@ pub extern "C" fn stepmachine_run(
     if state.len() != 13776 {
         return unfit_number(table);
     }
-    let ran = run(table, order, answers);
-    let completion = ran.completion;
-    let number = completion_number(completion);
-    if is_done(completion) {
-        encode(ran.state, state);
+    let found = read_table(table);
+    let number = found.number;
+    if number != 0 {
+        return number;
     }
-    number
+    if answers.len() < order.len() {
+        return 13;
+    }
+    let layout = found.layout;
+    let starts = layout.starts;
+    encode(start_state(), state);
+    follow(table, &starts, found.work, order, answers, state);
+    0
 }
