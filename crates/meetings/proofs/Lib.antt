@@ -1,2 +1,4 @@
 pub mod Mapping
 pub mod Nexts
+pub mod Reholds
+pub mod Clocking

@@ -1,1 +1,86 @@
-// Turns in the lent bytes, one after another.
+// Turns in the lent bytes: the command's function for whoever does not wait, and orders of turns.
+ghost use Rattle.moves.specs.Moves.{TurnsIn};
+ghost use Rattle.turns.specs.Turns.{TurnsAny};
+use bodies::end::end;
+use bodies::finish::finish;
+use bodies::repeat::repeat;
+use bodies::spawn::spawn;
+use fields::activities::depth_at;
+use fields::activities::status_at;
+use fields::counts::activities_of;
+use fields::frames::frame_at;
+use meetings::clock::clock;
+use meetings::next::next;
+use meetings::rehold::drop;
+use meetings::rehold::resume;
+use parts::checks::is_ended;
+use places::command_at;
+use program::command::Command;
+use values::acc::acc;
+use values::atom::atom;
+use values::cells::add;
+use values::cells::fetch;
+use values::cells::store;
+use values::offer::offer;
+use values::read::read;
+use values::reset::reset;
+use values::put::put;
+use waits::waiting::waits_at;
+
+pub mod follow; // follow.rt: an order of turns
+
+// The command that the activity stands on and does not wait at.
+fn carry_out(
+    table: &[u8],
+    starts: &[usize],
+    work: u64,
+    state: &mut [u8],
+    i: usize,
+    command: Command,
+) -> u8
+    ensures { λ r. ⌜ TurnsIn (now (table .entry)) (now (starts .entry)) command (now (state .entry)) (now (state .exit)) work i r ⌝ }
+{
+    match command {
+        Command::End => end(table, starts, work, state, i),
+        Command::Next => next(work, state, i),
+        Command::Clock(c) => clock(work, state, i, c as usize),
+        Command::Resume(c) => resume(work, state, i, c as usize),
+        Command::Drop(c) => drop(work, state, i, c as usize),
+        Command::Async(b, m) => spawn(table, starts, work, state, i, b, m),
+        Command::Finish(b) => finish(work, state, i, b),
+        Command::Repeat(n, b) => repeat(work, state, i, n, b),
+        Command::Acc(n, o) => acc(work, state, i, n as usize, o),
+        Command::Offer(n) => offer(work, state, i, n as usize),
+        Command::Read(n) => read(work, state, i, n as usize),
+        Command::Reset(n) => reset(work, state, i, n as usize),
+        Command::Put(v) => put(work, state, i, v),
+        Command::Fetch(d) => fetch(work, state, i, d as usize),
+        Command::Store(d) => store(work, state, i, d as usize),
+        Command::Add(d) => add(work, state, i, d as usize),
+        Command::Atom(k) => atom(table, starts, work, state, i, k),
+    }
+}
+
+// A turn of activity i, whichever number it is: numbers 14 to 17, or its step.
+pub fn turn(table: &[u8], starts: &[usize], work: u64, state: &mut [u8], i: usize) -> u8
+    ensures { λ r. ⌜ TurnsAny (now (table .entry)) (now (starts .entry)) (now (state .entry)) (now (state .exit)) work i r ⌝ }
+{
+    let made = activities_of(state) as usize;
+    if made <= i {
+        return 14;
+    }
+    let status = status_at(state, i);
+    if is_ended(status) {
+        return 15;
+    }
+    let depth = depth_at(state, i) as usize;
+    if depth == 0 {
+        return 15;
+    }
+    let f = frame_at(state, i, depth - 1);
+    let command = command_at(table, starts, f);
+    if waits_at(table, starts, state, i, command) {
+        return 16;
+    }
+    carry_out(table, starts, work, state, i, command)
+}

@@ -1,0 +1,140 @@
+-- Each arm is its command's function.
+use Rattle.turns.proofs.Ranges.{clock-small, resume-small, drop-small, acc-small, offer-small, read-small, reset-small, fetch-small, store-small, add-small}
+use Rattle.turns.proofs.Carrying.{reading, simply, ranging}
+use borrow.Author.Needs.{needs}
+use Rattle.turns.proofs.carry_out.Statement.{statement}
+use Rattle.turns.proofs.carry_out.Tie as tie
+
+returns : tie.Need-returns
+returns c = let f = c .before .before in reading (f .before .before .enum-told .given .1) (f .end .ensures)
+
+returns-2 : tie.Need-returns-2
+returns-2 c = let f = c .before .before in simply (f .before .before .enum-told2 .given .1) (f .next .ensures)
+
+returns-3 : tie.Need-returns-3
+returns-3 c = let f = c .before .before in ranging (f .before .before .before .command .given .1) clock-small (f .clock .ensures)
+
+returns-4 : tie.Need-returns-4
+returns-4 c = let f = c .before .before in ranging (f .before .before .before .command2 .given .1) resume-small (f .resume .ensures)
+
+returns-5 : tie.Need-returns-5
+returns-5 c = let f = c .before .before in ranging (f .before .before .before .command3 .given .1) drop-small (f .drop .ensures)
+
+returns-6 : tie.Need-returns-6
+returns-6 c = let f = c .before .before in reading (f .before .before .before .command4 .given .1) (f .spawn .ensures)
+
+returns-7 : tie.Need-returns-7
+returns-7 c = let f = c .before .before in simply (f .before .before .before .command5 .given .1) (f .finish .ensures)
+
+returns-8 : tie.Need-returns-8
+returns-8 c = let f = c .before .before in simply (f .before .before .before .command6 .given .1) (f .repeat .ensures)
+
+returns-9 : tie.Need-returns-9
+returns-9 c = let f = c .before .before in ranging (f .before .before .before .command7 .given .1) (acc-small _) (f .acc .ensures)
+
+returns-10 : tie.Need-returns-10
+returns-10 c = let f = c .before .before in ranging (f .before .before .before .command8 .given .1) offer-small (f .offer .ensures)
+
+returns-11 : tie.Need-returns-11
+returns-11 c = let f = c .before .before in ranging (f .before .before .before .command9 .given .1) read-small (f .read .ensures)
+
+returns-12 : tie.Need-returns-12
+returns-12 c = let f = c .before .before in ranging (f .before .before .before .command10 .given .1) reset-small (f .reset .ensures)
+
+returns-13 : tie.Need-returns-13
+returns-13 c = let f = c .before .before in simply (f .before .before .before .command11 .given .1) (f .put .ensures)
+
+returns-14 : tie.Need-returns-14
+returns-14 c = let f = c .before .before in ranging (f .before .before .before .command12 .given .1) fetch-small (f .fetch .ensures)
+
+returns-15 : tie.Need-returns-15
+returns-15 c = let f = c .before .before in ranging (f .before .before .before .command13 .given .1) store-small (f .store .ensures)
+
+returns-16 : tie.Need-returns-16
+returns-16 c = let f = c .before .before in ranging (f .before .before .before .command14 .given .1) add-small (f .add .ensures)
+
+returns-17 : tie.Need-returns-17
+returns-17 c = let f = c .before .before in reading (f .before .before .before .command15 .given .1) (f .atom .ensures)
+
+pub carry-out-spec : {M : Type 1} → statement M
+carry-out-spec =
+    tie.close
+    (tie.spec
+    (λ enum-told. search needs)
+    (λ end-requires κs. search needs)
+    (λ enum-told-2. search needs)
+    (λ next-requires κs. search needs)
+    (λ enum-known-command. search needs)
+    (λ cast-clock. search needs)
+    (λ clock-requires κs. search needs)
+    (λ enum-known-command-2. search needs)
+    (λ cast-resume. search needs)
+    (λ resume-requires κs. search needs)
+    (λ enum-known-command-3. search needs)
+    (λ cast-drop. search needs)
+    (λ drop-requires κs. search needs)
+    (λ enum-known-command-4. search needs)
+    (λ spawn-requires κs. search needs)
+    (λ enum-known-command-5. search needs)
+    (λ finish-requires κs. search needs)
+    (λ enum-known-command-6. search needs)
+    (λ repeat-requires κs. search needs)
+    (λ enum-known-command-7. search needs)
+    (λ cast-acc. search needs)
+    (λ acc-requires κs. search needs)
+    (λ enum-known-command-8. search needs)
+    (λ cast-offer. search needs)
+    (λ offer-requires κs. search needs)
+    (λ enum-known-command-9. search needs)
+    (λ cast-read. search needs)
+    (λ read-requires κs. search needs)
+    (λ enum-known-command-10. search needs)
+    (λ cast-reset. search needs)
+    (λ reset-requires κs. search needs)
+    (λ enum-known-command-11. search needs)
+    (λ put-requires κs. search needs)
+    (λ enum-known-command-12. search needs)
+    (λ cast-fetch. search needs)
+    (λ fetch-requires κs. search needs)
+    (λ enum-known-command-13. search needs)
+    (λ cast-store. search needs)
+    (λ store-requires κs. search needs)
+    (λ enum-known-command-14. search needs)
+    (λ cast-add. search needs)
+    (λ add-requires κs. search needs)
+    (λ enum-known-command-15. search needs)
+    (λ atom-requires κs. search needs)
+    (λ same-length. search needs)
+    returns
+    (λ same-length-2. search needs)
+    returns-2
+    (λ same-length-3. search needs)
+    returns-3
+    (λ same-length-4. search needs)
+    returns-4
+    (λ same-length-5. search needs)
+    returns-5
+    (λ same-length-6. search needs)
+    returns-6
+    (λ same-length-7. search needs)
+    returns-7
+    (λ same-length-8. search needs)
+    returns-8
+    (λ same-length-9. search needs)
+    returns-9
+    (λ same-length-10. search needs)
+    returns-10
+    (λ same-length-11. search needs)
+    returns-11
+    (λ same-length-12. search needs)
+    returns-12
+    (λ same-length-13. search needs)
+    returns-13
+    (λ same-length-14. search needs)
+    returns-14
+    (λ same-length-15. search needs)
+    returns-15
+    (λ same-length-16. search needs)
+    returns-16
+    (λ same-length-17. search needs)
+    returns-17)
