@@ -13,7 +13,7 @@ use Rattle.rules.specs.declared.state.Status.the-variants.{Running, AtBarrier, 
 use Rattle.rules.specs.declared.state.Activity.{Activity}
 use Rattle.rules.specs.declared.state.State.{State}
 use Rattle.rules.specs.State.{act, isEnded, ended}
-use Rattle.rules.specs.Search.{someBelow, chain}
+use Rattle.rules.specs.Search.{chain}
 use Rattle.rules.specs.Tree.{spawnerOf, inside}
 use Rattle.rules.specs.Waiting.{unendedInside}
 use Rattle.rules.proofs.Tests.{decide, true-false, and-true, or-true}

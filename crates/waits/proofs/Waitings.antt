@@ -29,8 +29,7 @@ use Rattle.rules.specs.Waiting.{behindOf, unendedBelow, unendedInside, waitsFor
 use Rattle.rules.specs.Steps.{at, fault, waits}
 use Rattle.rules.proofs.WellFormedFacts.{Facts, facts}
 use Rattle.guards.specs.Known.{Known}
-use Rattle.guards.specs.Stack.{Stacked}
-use Rattle.guards.specs.Facing.{Rooted, Placed}
+use Rattle.guards.specs.Facing.{Placed}
 use Rattle.guards.specs.Views.{Fit}
 use Rattle.guards.proofs.Chains.{unended-below}
 use Rattle.guards.proofs.Facing.{nobody-waited, guard-shut, guard-open, placed, rooted}

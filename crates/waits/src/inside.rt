@@ -3,7 +3,6 @@ ghost use Prim.Native.Nat.{_<_};
 ghost use mathlib.Core.Path.{_≡_};
 ghost use mathlib.Core.Bool.{_||_};
 ghost use lib.Dec.{eqb};
-ghost use Rattle.rules.specs.declared.state.Activity.{Activity};
 ghost use Rattle.fields.specs.Lent.{ReadsAct};
 ghost use Rattle.waits.specs.Waits.{isUnended, Lowest, Inside};
 use fields::activities::spawner_at;

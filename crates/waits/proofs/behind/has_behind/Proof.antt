@@ -1,5 +1,5 @@
 -- A search over the eight names.
-use Prim.Native.Nat.{ℕ, _+_, _-_, _*_}
+use Prim.Native.Nat.{_+_, _-_, _*_}
 use native.Mathlib.Omega.{arith}
 use Rattle.encoding.proofs.FieldLaws.{sized}
 use Rattle.waits.proofs.Behinds.{NoneIn, none-in, none-of, none-more, one-found}

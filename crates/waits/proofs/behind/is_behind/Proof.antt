@@ -1,5 +1,4 @@
 -- By the registration, the clock and the phase.
-use native.Mathlib.Omega.{arith}
 use Rattle.waits.proofs.Behinds.{unheld, elsewhere, earlier, within, beyond}
 use borrow.Author.Needs.{needs}
 use Rattle.waits.proofs.behind.is_behind.Statement.{statement}

@@ -1,7 +1,6 @@
 -- The invariant: those below x are passed.
-use Prim.Native.Nat.{_+_, _-_, _≤_, _<_}
+use Prim.Native.Nat.{_-_, _≤_, _<_}
 use native.Mathlib.Omega.{arith}
-use lib.ListN.{set}
 use Rattle.waits.proofs.Insides.{InsideTo, too-many, nobody-above, nobody-inside, inside-yet, inside-end, not-lower, inside-out, inside-ended, inside-unended}
 use borrow.Author.Needs.{needs}
 use Rattle.waits.proofs.inside.someone_inside.Statement.{statement}
