@@ -54,15 +54,16 @@ fn lend_fault(state: &[u8], i: usize, m: u8) -> u8
     found
 }
 
-// F3, F1 and F2, tried in this order; who lends no clock meets none.
+// F3 comes before F1, and F1 before F2; who lends no clock meets none.
 pub fn async_fault(table: &[u8], starts: &[usize], state: &[u8], i: usize, m: u8) -> u8
     ensures { λ r. ⌜ ReadsIn (λ (p : Program) (a : Activity). asyncFault p a m) (now (table .entry)) (now (starts .entry)) (now (state .entry)) i r ⌝ }
 {
     if m == 0 {
         return 0;
     }
+    let lending = lend_fault(state, i, m);
     if in_own_finish(table, starts, state, i) {
         return 3;
     }
-    lend_fault(state, i, m)
+    lending
 }

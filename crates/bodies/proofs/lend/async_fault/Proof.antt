@@ -8,12 +8,15 @@ returns : tie.Need-returns
 returns c = lends-nothing (c .if1 .taken)
 
 returns-2 : tie.Need-returns-2
-returns-2 c = lends-inside (c .before .before .if1 .left) (c .before .in-own-finish .ensures) (c .if2 .taken)
+returns-2 c =
+    let x = c .before in
+    lends-inside (x .before .before .if1 .left) (x .in-own-finish .ensures) (c .if2 .taken)
 
 returns-3 : tie.Need-returns-3
 returns-3 c =
-    let e = c .before in
-    lends-outside (e .before .before .if1 .left) (e .before .in-own-finish .ensures) (e .if2 .left) (c .lend-fault .ensures)
+    let x = c .before in
+    let f = x .before in
+    lends-outside (f .before .if1 .left) (x .in-own-finish .ensures) (c .if2 .left) (f .lend-fault .ensures)
 
 pub async-fault-spec : {M : Type 1} → statement M
-async-fault-spec = tie.close (tie.spec returns (λ in-own-finish-requires κs. search needs) returns-2 (λ lend-fault-requires κs. search needs) returns-3)
+async-fault-spec = tie.close (tie.spec returns (λ lend-fault-requires κs. search needs) (λ in-own-finish-requires κs. search needs) returns-2 returns-3)
