@@ -158,7 +158,7 @@ module _ (p : Program) (e : Env) (i : ℕ) (a : Activity) (own : Four (a .regist
 -- STATES
 
 -- What holds of each entry and of a new one holds of each after it was set.
-put : {A : Type 0} (P : A → Type 0) (l : List A) (i : ℕ) (a : A) (d : A) → ((j : ℕ) → P (getD l j d)) → P a → (j : ℕ) → P (getD (set l i a) j d)
+pub put : {A : Type 0} (P : A → Type 0) (l : List A) (i : ℕ) (a : A) (d : A) → ((j : ℕ) → P (getD l j d)) → P a → (j : ℕ) → P (getD (set l i a) j d)
 put P l i a d f h j = go (stored l i a j d)
   where
     go : Stored l i a j d → P (getD (set l i a) j d)
