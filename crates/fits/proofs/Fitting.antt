@@ -1,10 +1,9 @@
 -- Every state that the rules reach has the sizes of the declared types, and its numbers fit them: so its bytes are those of no other.
 use Prim.Native.Nat.{ℕ, zero, suc, _^_, _≤_, _<_}
 use native.Mathlib.Omega.{arith}
-use native.Mathlib.Decide.{decLt}
-use mathlib.Core.Path.{_≡_, refl, sym, ap, _∙_, subst}
+use mathlib.Core.Path.{_≡_, refl, _∙_}
 use mathlib.Core.List.{List, [], _∷_}
-use mathlib.Core.Bool.{Bool, true, false, cond}
+use mathlib.Core.Bool.{Bool, true, false}
 use lib.ListN.{length, getD, set, replicate, length-set, length-replicate}
 use lib.Dec.{eqb}
 use Rattle.program.specs.Bodies.{programOf}
@@ -13,7 +12,7 @@ use Rattle.program.proofs.Basic.{Bytes}
 use Rattle.program.proofs.ShapeLaws.{accepted, numbered}
 use Rattle.rules.specs.declared.state.Activity.{Activity}
 use Rattle.rules.specs.declared.state.State.{State}
-use Rattle.rules.specs.State.{noFrame, noHold, noFrames, noActivity, noAccumulator, zeroState, absent, act, accumulator}
+use Rattle.rules.specs.State.{noFrame, noHold, noFrames, noActivity, noAccumulator, zeroState, absent}
 use Rattle.rules.specs.Effects.{withFrames}
 use Rattle.rules.specs.Steps.{base, startState, startWith, start, step}
 use Rattle.rules.specs.Runs.{runFrom, run}
@@ -64,6 +63,7 @@ bare depth h =
       frames = λ d l. all FitsFrame 16 noFrame noFrame frame-zero frame-zero d;
     }
 
+-- What stands past the end.
 gone : FitsActivity absent
 gone =
     record {
@@ -107,6 +107,7 @@ nobody-sized = sizes 64
     sizes (suc n) zero l = bare-sized 0
     sizes (suc n) (suc i) l = sizes n i (omega arith)
 
+-- The state of zeros, and the start state.
 pub zero-fits : Fitting zeroState
 zero-fits = first (replicate 64 noActivity) 0 (omega arith) (length-replicate 64 noActivity) nobody-sized nobody-fits
 
@@ -158,11 +159,13 @@ step-fits t y s f i = go (outcome base t s i)
 
 -- RUNS
 
+-- A step for each number of a list.
 pub run-from-fits : (t : List ℕ) → Bytes t → (order : List ℕ) (s : State) → Fitting s → Fitting (runFrom base t s order)
 unfolding runFrom
 run-from-fits t y [] s f = f
 run-from-fits t y (i ∷ order) s f = run-from-fits t y order (step base t s i .state) (step-fits t y s f i)
 
+-- What the start returns, of an accepted table or another.
 pub start-call-fits : (t : List ℕ) → Fitting (start base t .state)
 unfolding start startWith
 start-call-fits t = go (eqb (numberOf (base .work) t) 0) refl

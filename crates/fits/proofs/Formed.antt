@@ -2,14 +2,13 @@
 use Prim.Native.Nat.{ℕ, zero, suc, _^_, _≤_, _<_}
 use native.Mathlib.Omega.{arith}
 use native.Mathlib.Decide.{decLt}
-use mathlib.Core.Path.{_≡_, refl, sym, ap, _∙_, subst}
+use mathlib.Core.Path.{_≡_, ap}
 use mathlib.Core.List.{List}
-use mathlib.Core.Bool.{Bool, true, false, cond, _&&_}
+use mathlib.Core.Bool.{true, false}
 use mathlib.Core.Logic.{_⊎_, inl, inr}
-use lib.ListN.{length, getD}
 use lib.Dec.{eqb}
 use borrow.Author.Tests.{eqb-true}
-use Rattle.program.specs.Bodies.{programOf, Program}
+use Rattle.program.specs.Bodies.{programOf}
 use Rattle.program.specs.Scan.{scan}
 use Rattle.program.specs.Table.{workLimit, numberOf}
 use Rattle.program.proofs.Basic.{Bytes}
@@ -17,19 +16,18 @@ use Rattle.program.proofs.ShapeLaws.{numbered, numbered-counted}
 use Rattle.rules.specs.declared.state.Frame.{Frame}
 use Rattle.rules.specs.declared.state.Hold.{Hold}
 use Rattle.rules.specs.declared.state.Activity.{Activity}
-use Rattle.rules.specs.declared.state.Accumulator.{Accumulator}
 use Rattle.rules.specs.declared.state.State.{State}
-use Rattle.rules.specs.State.{act, frame, hold, bound, accumulator, noFrame}
+use Rattle.rules.specs.State.{act, frame, hold, bound, accumulator}
 use Rattle.rules.specs.Search.{allBelow}
 use Rattle.rules.specs.Clocks.{isHeld}
 use Rattle.rules.specs.Tree.{here}
-use Rattle.rules.specs.WellFormed.{isNoFrame, isNoHold, isNoAccumulator, isNoActivity, isRunning, isBottom, isPlaced, wellFormed}
+use Rattle.rules.specs.WellFormed.{isNoFrame, isNoHold, isNoActivity, isRunning, isBottom, isPlaced, wellFormed}
 use Rattle.rules.proofs.Tests.{and-true, decide}
 use Rattle.rules.proofs.Search.{allBelow-at}
 use Rattle.rules.proofs.WellFormedFacts.{ActivityFacts, Facts, facts}
 use Rattle.rules.proofs.WellFormedHolds as holds
 use Rattle.rules.proofs.WellFormedStack.{Ran, byFinish, byRepeat, Stack, Stacked, level}
-use Rattle.encoding.proofs.Fits.{FitsFrame, FitsHold, FitsAccumulator, FitsActivity, FitsState}
+use Rattle.encoding.proofs.Fits.{FitsFrame, FitsHold, FitsActivity, FitsState}
 use Rattle.guards.proofs.Places.{body-small, offset-small}
 use Rattle.fits.proofs.Operands.{narrow-here}
 use Rattle.fits.proofs.Small.{Small}
@@ -74,6 +72,7 @@ no-activity a e =
 
 -- ACTIVITIES
 
+-- A clock name.
 held-fits : {made : ℕ} → made ≤ 16 → (h : Hold) → holds.Fits 65535 made h → FitsHold h
 held-fits m h x = go (decide (isHeld (h .registration)))
   where
@@ -84,6 +83,7 @@ held-fits m h x = go (decide (isHeld (h .registration)))
 module _ (t : List ℕ) (ok : scan t ≡ 0) (y : Bytes t) where
   -- The bodies on a stack.
   module _ {made depth : ℕ} {fs : List Frame} (few : made ≤ 64) (k : Stack (programOf t) made depth fs) where
+    -- a body on another
     ran-fits : (f g : Frame) → isPlaced (programOf t) f ≡ true → isPlaced (programOf t) g ≡ true → Stacked (programOf t) made f g → FitsFrame g
     ran-fits f g on up x = go (x .by)
       where
@@ -98,6 +98,7 @@ module _ (t : List ℕ) (ok : scan t ≡ 0) (y : Bytes t) where
               first = omega arith;
             }
 
+    -- below the depth
     used-fits : (d : ℕ) → d < depth → FitsFrame (level fs d)
     unfolding isBottom
     used-fits zero l =
@@ -111,6 +112,7 @@ module _ (t : List ℕ) (ok : scan t ≡ 0) (y : Bytes t) where
         }
     used-fits (suc d) l = ran-fits (level fs d) (level fs (suc d)) (k .placed d (omega arith)) (k .placed (suc d) l) (k .stacked d l)
 
+    -- all sixteen
     frame-fits : (d : ℕ) → d < 16 → FitsFrame (level fs d)
     frame-fits d l = go (decLt d depth)
       where
@@ -137,6 +139,7 @@ module _ (t : List ℕ) (ok : scan t ≡ 0) (y : Bytes t) where
 
 -- STATES
 
+-- Well-formed, for an accepted table of bytes.
 pub formed-fits : (t : List ℕ) → numberOf workLimit t ≡ 0 → Bytes t → (s : State) → wellFormed 65535 (programOf t) s ≡ true → Small s → FitsState s
 formed-fits t n y s w h =
     record {

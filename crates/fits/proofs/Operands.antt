@@ -1,5 +1,5 @@
 -- The operands of a command of an accepted table of bytes: a number of runs is a byte, a value four bytes.
-use Prim.Native.Nat.{ℕ, _+_, _*_, _^_, _<_}
+use Prim.Native.Nat.{ℕ, _^_, _<_}
 use native.Mathlib.Omega.{arith}
 use mathlib.Core.Path.{_≡_, sym, ap, _∙_}
 use mathlib.Core.List.{List, [], _∷_}
@@ -11,7 +11,7 @@ use Rattle.program.specs.Bodies.{programOf}
 use Rattle.program.specs.Scan.{scan, layoutOf}
 use Rattle.program.specs.declared.command.Command.{Command}
 use Rattle.program.specs.declared.command.Command.the-variants.{Repeat, Put}
-use Rattle.program.specs.declared.reading.Reading.the-variants.{Whole, Cut}
+use Rattle.program.specs.declared.reading.Reading.the-variants.{Whole}
 use Rattle.program.proofs.Basic.{apart, Bytes, bytes-drop}
 use Rattle.program.proofs.ShapeReading.{read-as}
 use Rattle.rules.specs.declared.state.Frame.{Frame}

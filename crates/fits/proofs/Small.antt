@@ -1,7 +1,7 @@
 -- The values of a state, in registers, cells and accumulators, are below 2^32, and a call of the step leaves them so.
-use Prim.Native.Nat.{ℕ, zero, suc, _+_, _-_, _%_, _^_, _<_}
+use Prim.Native.Nat.{ℕ, zero, suc, _-_, _^_, _<_}
 use native.Mathlib.Omega.{arith}
-use mathlib.Core.Path.{_≡_, refl, sym, ap, _∙_, subst}
+use mathlib.Core.Path.{_≡_, refl, sym, subst}
 use mathlib.Core.List.{List, [], _∷_}
 use mathlib.Core.Bool.{Bool, true, false, cond}
 use lib.ListN.{getD, set}
@@ -9,7 +9,6 @@ use lib.Dec.{eqb, leb, ltb}
 use Rattle.program.specs.declared.command.Command.{Command}
 use Rattle.program.specs.declared.command.Command.the-variants.{End, Next, Clock, Resume, Drop, Async, Finish, Repeat, Acc, Offer, Read, Reset, Put, Fetch, Store, Add, Atom}
 use Rattle.program.specs.Bodies.{Program, programOf}
-use Rattle.program.specs.Scan.{scan}
 use Rattle.program.proofs.Basic.{Bytes}
 use Rattle.program.proofs.ShapeLaws.{numbered}
 use Rattle.rules.specs.declared.state.Status.the-variants.{Ended}
@@ -21,8 +20,8 @@ use Rattle.rules.specs.declared.state.State.{State}
 use Rattle.rules.specs.State.{operatorOf, noAccumulator, absent, act, top, accumulator, isAtBarrier}
 use Rattle.rules.specs.Faults.{Env}
 use Rattle.rules.specs.Effects as effects
-use Rattle.rules.specs.Effects.{past, pushed, again, popped, endOf, nextOf, repeatOf, child, stopped, reduce, newValue, Touch, cellAfter, storing, touch, touchAll, Spawned, nobody, one, Write, keep, make, offer, reset, Effect, withValue, withWritten, withSpawned, withStores, untouched, effectOf, envOf, applied}
-use Rattle.rules.specs.Steps.{base, at, effect, step, Limits}
+use Rattle.rules.specs.Effects.{past, pushed, again, popped, endOf, nextOf, repeatOf, child, stopped, reduce, newValue, Touch, cellAfter, touch, touchAll, Spawned, nobody, one, Write, keep, make, offer, reset, Effect, withValue, withWritten, withSpawned, withStores, untouched, effectOf, envOf, applied}
+use Rattle.rules.specs.Steps.{at, effect, step, Limits}
 use Rattle.rules.specs.Runs.{runFrom}
 use Rattle.rules.proofs.Lists.{Stored, new, old, stored}
 use Rattle.rules.proofs.Shapes.{OfChild}
@@ -35,6 +34,7 @@ use Rattle.fits.proofs.Operands.{Narrow, narrow-here}
 abbrev pub Four : ℕ → Type 0
 Four v = v < 2 ^ 32
 
+-- All values of a state, past the ends of its lists too.
 pub record Small (s : State) : Type 0 where
   pub cells : (x : ℕ) → Four (getD (s .cells) x 0)
   pub values : (n : ℕ) → Four (accumulator s n .value)
@@ -42,6 +42,7 @@ pub record Small (s : State) : Type 0 where
 
 -- EFFECTS
 
+-- What an effect writes, stores and leaves in hands.
 unfoldable SmallWrite : Write → Type 0
 SmallWrite keep = Unit {0}
 SmallWrite (make c) = Four (c .value)
@@ -69,11 +70,13 @@ either false h k = k
 -- CELLS
 
 module _ (cell : ℕ → ℕ) (low : (d : ℕ) → Four (cell d)) where
+  -- after stores
   cell-small : (l : List effects.Stored) → SmallStores l → (d : ℕ) → Four (cellAfter cell l d)
   unfolding SmallStores cellAfter
   cell-small [] h d = low d
   cell-small (x ∷ xs) h d = either (eqb (x .cell) d) (h .0) (cell-small xs (h .1) d)
 
+  -- after a command on a cell
   touch-small : (t : Touch) → SmallTouch t → (c : Command) → SmallTouch (touch cell t c)
   unfolding SmallStores touch
   touch-small t h End = h
@@ -94,6 +97,7 @@ module _ (cell : ℕ → ℕ) (low : (d : ℕ) → Four (cell d)) where
   touch-small t h (Add d) = record { register = h .register; stores = (omega arith, h .stores) }
   touch-small t h (Atom k) = h
 
+  -- after those of an ATOM
   touches-small : (t : Touch) → SmallTouch t → (l : List Command) → SmallTouch (touchAll cell t l)
   unfolding touchAll
   touches-small t h [] = h
@@ -111,6 +115,7 @@ reduce-small Sum x y h k = omega arith
 reduce-small Minimum x y h k = either (leb x y) h k
 reduce-small Maximum x y h k = either (leb x y) k h
 
+-- END, NEXT and REPEAT leave the hand.
 end-register : (p : Program) (a : Activity) → endOf p a .register ≡ a .register
 unfolding endOf again popped past
 end-register p a = go (leb (a .depth) 1) (ltb 1 (top a .runs))
@@ -135,6 +140,7 @@ module _ (p : Program) (e : Env) (i : ℕ) (a : Activity) (own : Four (a .regist
   unfolding SmallStores
   hand = record { register = own; stores = tt }
 
+  -- The effect of each command.
   effect-small : (c : Command) (inner : List Command) → Narrow c → SmallEffect (effectOf p e i a c inner)
   unfolding effectOf past pushed child OfChild SmallWrite SmallStores
   effect-small End inner h = record { self = rw (end-register p a) own; born = tt; write = tt; stores = tt }
@@ -166,6 +172,7 @@ put P l i a d f h j = go (stored l i a j d)
     go (old v) = subst P (sym v) (f j)
 
 module _ (s : State) (h : Small s) where
+  -- The cells, the accumulators, and the state after an effect.
   stores-small : (l : List effects.Stored) → SmallStores l → (x : ℕ) → Four (getD (withStores (s .cells) l) x 0)
   unfolding SmallStores withStores
   stores-small [] k = h .cells
