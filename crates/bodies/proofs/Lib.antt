@@ -1,2 +1,5 @@
+pub mod Pushing
+pub mod Ends
+pub mod Lending
 pub mod Giving
 pub mod Spawns

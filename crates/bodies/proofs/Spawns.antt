@@ -1,29 +1,59 @@
 -- ASYNC.
 use Prim.Native.Nat.{ℕ, _+_, _<_, _≤_}
 use native.Mathlib.Omega.{arith}
-use mathlib.Core.Path.{_≡_, refl, sym, ap, _∙_, subst}
+use mathlib.Core.Path.{_≡_, refl, sym, ap, _∙_}
 use mathlib.Core.List.{List}
-use mathlib.Core.Bool.{true, false, _||_}
-use lib.ListN.{set}
+use mathlib.Core.Bool.{Bool, true, false, cond, _&&_}
 use lib.Seq.{set-comm}
-use lib.Dec.{leb}
-use borrow.Author.Tests.{le-leb, lt-leb, eq-eqb}
+use lib.Dec.{ltb, leb}
+use borrow.Author.Tests.{le-leb, lt-leb}
 use Rattle.program.specs.Command.{rows, rowAt, rowOf, isEnd, width, held}
-use Rattle.program.specs.Bodies.{Program}
+use Rattle.program.specs.Bodies.{Program, programOf}
 use Rattle.program.specs.declared.command.Command.the-variants.{Async}
+use Rattle.rules.specs.declared.state.Fault.{Fault}
 use Rattle.rules.specs.declared.state.Status.the-variants.{Running}
 use Rattle.rules.specs.declared.state.Frame.{Frame}
 use Rattle.rules.specs.declared.state.Activity.{Activity}
 use Rattle.rules.specs.declared.state.State.{State}
-use Rattle.rules.specs.State.{act, noHolds}
-use Rattle.rules.specs.Effects.{stopped, withRegister, withHolds, withNames, lent, child, spawning, past, effectOf, withStores, applied, envOf}
+use Rattle.rules.specs.State.{faultNumber, faultOf, act}
+use Rattle.rules.specs.Tree.{inOwnFinish}
+use Rattle.rules.specs.Faults.{lendsUnheld, lendsQuiesced, asyncFault, faultFor}
+use Rattle.rules.specs.Effects.{stopped, withRegister, child, spawning, past, effectOf, withStores, applied}
 use Rattle.rules.specs.Steps.{base, at, fault, effect, exceeds}
+use Rattle.rules.proofs.Turn.{turn}
+use Rattle.guards.specs.Known.{Known}
 use Rattle.guards.specs.Exceeding.{overfull, exceedsAt}
-use Rattle.fields.specs.Lent.{Lent, Reads, ReadsAct, Writes, WritesAct, withAct, withSteps, withActivities, withSpawner, withFrame, withDepth}
+use Rattle.guards.proofs.Facing.{stack-of}
+use Rattle.fields.specs.Lent.{Lent, Writes, WritesAct, withAct, withSteps, withActivities, withSpawner, withFrame, withDepth}
 use Rattle.moves.specs.Moves.{Standing, Turned, GoesOn}
+use Rattle.bodies.specs.Lends.{ReadsIn}
 use Rattle.bodies.specs.Gives.{Gives}
 use Rattle.moves.proofs.Withs.{act-with, act-other, with-with, then}
-use Rattle.moves.proofs.Standings.{spawned, few, asks, plain, calm, went, done}
+use Rattle.moves.proofs.Standings.{spawned, few, fault-here, asks, plain, calm, went, done}
+
+-- THE FAULT
+
+number-of : (x y z : Bool) → let n : ℕ = cond x 3 (cond y 1 (cond z 2 0)) in (n ≡ 0 → ⊥) → faultNumber (faultOf n) ≡ n
+number-of true y z n = refl
+number-of false true z n = refl
+number-of false false true n = refl
+number-of false false false n = absurd (n refl)
+
+module _ {t starts b₀ : List ℕ} {s : State} {i work b m f : ℕ} (k : Known t starts) (l : Lent b₀ s) (w : Standing (programOf t) s i work (Async b m))
+    (read : ReadsIn (λ (p : Program) (a : Activity). asyncFault p a m) t starts b₀ i f) where
+  pub met : fault (programOf t) s i ≡ f
+  unfolding faultFor
+  met = fault-here w ∙ sym (read .reads k s l (few w) (stack-of (record { known = k; formed = w .formed }) (spawned w) (turn (programOf t) s i (w .goes) .unended)))
+
+  pub met-number : {x : Fault} → (f ≡ 0 → ⊥) → x ≡ faultOf f → fault (programOf t) s i ≡ faultNumber x
+  unfolding faultFor asyncFault
+  met-number n e =
+      let a = act s i in
+      let q = fault-here w in
+      let z : f ≡ asyncFault (programOf t) a m = sym met ∙ q in
+      met ∙ z ∙ sym (number-of (ltb 0 m && inOwnFinish (programOf t) a) (lendsUnheld a m) (lendsQuiesced a m) (λ o. n (z ∙ o))) ∙ sym (ap faultNumber (e ∙ ap faultOf z))
+
+-- THE CHILD
 
 abbrev pub first : ℕ → Frame
 first b = record { offset = 0; body = b; runs = 0; first = 0 }

@@ -1,1 +1,4 @@
+pub mod Pushes
+pub mod Pops
+pub mod Lends
 pub mod Gives

@@ -1,7 +1,8 @@
 // ASYNC.
 ghost use Rattle.program.specs.declared.command.Command.the-variants.{Async};
 ghost use Rattle.bodies.specs.Gives.{Gives};
-ghost use Rattle.moves.specs.Moves.{Does};
+ghost use Rattle.moves.specs.Moves.{Does, TurnsIn};
+use super::lend::async_fault;
 use fields::activities::name_at;
 use fields::activities::put_depth;
 use fields::activities::put_name;
@@ -13,10 +14,12 @@ use fields::counts::put_activities;
 use fields::frames::put_frame;
 use fields::holds::hold_at;
 use fields::holds::put_hold;
+use moves::fail;
 use moves::go_on;
 use moves::is_spent;
 use moves::stop;
 use parts::holds::lends;
+use parts::numbers::fault_of;
 use rules::state::Frame;
 use rules::state::Hold;
 use rules::state::Registration;
@@ -48,7 +51,7 @@ fn give(state: &mut [u8], i: usize, n: usize, m: u8)
 }
 
 // The step of an ASYNC that meets no fault: all of the child's entry is written.
-pub fn spawn(work: u64, state: &mut [u8], i: usize, b: u8, m: u8) -> u8
+fn fork(work: u64, state: &mut [u8], i: usize, b: u8, m: u8) -> u8
     ensures { λ r. ⌜ Does (Async b m) (now (state .entry)) (now (state .exit)) work i r ⌝ }
 {
     if is_spent(state, work) {
@@ -78,4 +81,23 @@ pub fn spawn(work: u64, state: &mut [u8], i: usize, b: u8, m: u8) -> u8
     give(state, i, n, m);
     put_activities(state, made + 1);
     go_on(state, i, 3)
+}
+
+// ASYNC: a fault, or the child.
+pub fn spawn(
+    table: &[u8],
+    starts: &[usize],
+    work: u64,
+    state: &mut [u8],
+    i: usize,
+    b: u8,
+    m: u8,
+) -> u8
+    ensures { λ r. ⌜ TurnsIn (now (table .entry)) (now (starts .entry)) (Async b m) (now (state .entry)) (now (state .exit)) work i r ⌝ }
+{
+    let f = async_fault(table, starts, state, i, m);
+    if f == 0 {
+        return fork(work, state, i, b, m);
+    }
+    fail(work, state, i, fault_of(f))
 }

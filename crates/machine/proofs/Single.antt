@@ -25,7 +25,7 @@ use Rattle.rules.proofs.Tests.{decide}
 use Rattle.rules.proofs.StepLaws.{refusal-number}
 use Rattle.machine.specs.Ran.{answerBy}
 use Rattle.guards.specs.Views.{Fit}
-use Rattle.machine.specs.Turn.{Followable, answeredFrom}
+use Rattle.turns.specs.Turns.{Followable, answeredFrom}
 use Rattle.machine.proofs.Turns.{turned-down, overflows, takes}
 
 -- THE ANSWER

@@ -72,16 +72,3 @@ pub record TurnedAt (p : Program) (acts : List Activity) (accs : List Accumulato
 unfoldable pub Turned : List ℕ → List ℕ → ℕ → Shared → ℕ → Activity → Seen → Bool → Change → Type 0
 Turned t starts work e i a seen waits r = (acts : List Activity) (accs : List Accumulator) → DueAt t starts work accs e i a seen waits acts
     → TurnedAt (programOf t) acts accs e i a (seen .command) r
-
--- An order that can be followed: each state on the way is well-formed, and there is room for an answer to each step.
-pub record Followable (t : List ℕ) (starts : List ℕ) (work : ℕ) (s : State) (order : List ℕ) (room : ℕ) : Type 0 where
-  pub known : Known t starts
-  pub accepted : numberOf workLimit t ≡ 0
-  pub counted : work ≡ workOf (programOf t)
-  pub small : work ≤ workLimit
-  pub formed : (k : ℕ) → k < length order → wellFormed 65535 (programOf t) (runFrom base t s (take k order)) ≡ true
-  pub fits : length order ≤ room
-
--- The answers at the buffer's start; what is past them stays.
-unfoldable pub answeredFrom : List ℕ → State → List ℕ → List ℕ → List ℕ
-answeredFrom t s order buffer = map answerNumber (answersFrom base t s order) ++ drop (length order) buffer

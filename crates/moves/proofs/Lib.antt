@@ -2,3 +2,4 @@ pub mod Withs
 pub mod Standings
 pub mod Going
 pub mod Failing
+pub mod Reading

@@ -8,11 +8,12 @@ use mathlib.Core.Bool.{Bool, true, false, _||_, _&&_}
 use mathlib.Core.Logic.{_⊎_, inl, inr}
 use lib.Dec.{leb, eqb}
 use borrow.Author.Tests.{leb-true, leb-false, eq-eqb, ne-eqb}
-use Rattle.program.specs.Command.{opcode, isEnd, width, held}
+use Rattle.program.specs.Command.{opcode, isEnd, width, held, names, named}
 use Rattle.program.specs.Bodies.{Program, programOf}
 use Rattle.program.specs.Scan.{scan}
 use Rattle.program.specs.Count.{workOf}
 use Rattle.program.specs.declared.command.Command.{Command}
+use Rattle.program.proofs.ShapeLaws.{accepted}
 use Rattle.rules.specs.declared.state.Fault.{Fault}
 use Rattle.rules.specs.declared.state.Fault.the-variants.{F1, F2, F3, F4, F5, F6, F7}
 use Rattle.rules.specs.declared.state.Activity.{Activity}
@@ -22,16 +23,17 @@ use Rattle.rules.specs.declared.answer.Stepped.{Stepped}
 use Rattle.rules.specs.State.{bound, faultNumber, faultOf, act, top, isEnded, isAtBarrier, statusAnswer, answerNumber}
 use Rattle.rules.specs.declared.state.Status.{Status}
 use Rattle.rules.specs.declared.state.Status.the-variants.{Running, AtBarrier, Ended, Faulted}
-use Rattle.rules.specs.Tree.{nextOffset}
+use Rattle.rules.specs.Tree.{here, nextOffset}
 use Rattle.rules.specs.WellFormed.{isPlaced, wellFormed}
 use Rattle.rules.specs.Faults.{faultFor}
 use Rattle.rules.specs.Effects.{Effect, failing, stopped, alone, past, withTop, effectOf, envOf, withStores, applied}
 use Rattle.rules.specs.Steps.{base, at, fault, effect, refusal, exceeds, stepped, advance}
 use Rattle.rules.proofs.Tests.{true-false, decide}
 use Rattle.rules.proofs.Turn.{turn, effect-doing, effect-failed}
+use Rattle.rules.proofs.WellFormedStack.{stack-room}
 use Rattle.rules.proofs.WellFormedFacts.{Facts, ActivityFacts, facts}
 use Rattle.guards.specs.Exceeding.{overfull, overtakes, exceedsAt}
-use Rattle.guards.proofs.Places.{next-is, next-small}
+use Rattle.guards.proofs.Places.{sound-here, next-is, next-small}
 use Rattle.guards.proofs.Exceeding.{measured, exceeds-at}
 use Rattle.fields.specs.Lent.{Lent, withAct, withSteps, onward}
 use Rattle.moves.specs.Moves.{Standing, Turned, GoesOn}
@@ -194,4 +196,8 @@ standing t s i work c ok formed goes stands counted small =
           next-is t ok (top (act s i)) on (ap isEnd stands ∙ e)
           ∙ rw stands (add-assoc (top (act s i) .offset) (width c) (2 * held c));
       low = λ e. let h = next-small t ok (top (act s i)) on (ap isEnd stands ∙ e) in omega arith;
+      deep =
+          λ e.
+          let k = sound-here t ok (top (act s i)) on .above (ap names stands ∙ e) in
+          stack-room (accepted t ok) (named (here p (top (act s i)) .command)) (a .stack) d (k .0) (k .1);
     }

@@ -17,6 +17,8 @@ use parts::numbers::status_answer;
 use rules::state::Fault;
 use rules::state::Status;
 
+pub mod faults; // faults.rt: the fault of READ and RESET
+
 // Whether no step is left.
 pub fn is_spent(state: &[u8], work: u64) -> bool
     ensures { λ r. ⌜ Reads (λ (s : State). leb work (s .steps)) (now (state .entry)) r ⌝ }

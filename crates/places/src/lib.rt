@@ -7,6 +7,8 @@ ghost use Rattle.rules.specs.WellFormed.{isPlaced};
 ghost use Rattle.guards.specs.Known.{Known};
 use program::command::Command;
 use program::command::opcode;
+use program::command::wide;
+use program::reading::known;
 use rules::state::Frame;
 
 // The command byte of FINISH.
@@ -16,7 +18,15 @@ const FINISH: usize = 6;
 pub fn command_at(table: &[u8], starts: &[usize], f: Frame) -> Command
     ensures { λ r. ⌜ (Known (now (table .entry)) (now (starts .entry)) → isPlaced (programOf (now (table .entry))) f ≡ true → r ≡ here (programOf (now (table .entry))) f .command) ⌝ }
 {
-    guards::place::command_at(table, starts, f)
+    let body = wide(f.body);
+    if starts.len() <= body {
+        return Command::End;
+    }
+    let first = starts[body];
+    if table.len() < first {
+        return Command::End;
+    }
+    known(&table[first..], f.offset as usize)
 }
 
 // Whether it is FINISH.

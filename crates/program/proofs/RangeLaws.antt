@@ -5,8 +5,8 @@ use mathlib.Core.List.{List, [], _∷_, map}
 use Prim.Native.Nat.{ℕ, zero, suc, _+_, _-_, _<_, _≤_}
 use native.Mathlib.Omega.{arith}
 use lib.Dec.{eqb, ltb, leb, leb·zero, leb·suc-suc}
-use lib.ListN.{length, getD, take, drop, length-drop}
-use lib.Seq.{take-all}
+use lib.ListN.{length, getD, take, drop, length-drop, drop-of-length-le}
+use lib.Seq.{take-all, drop-cons}
 use borrow.Author.Tests.{eqb-true, le-leb, lt-leb, lt-ltb, le-ltb}
 use Rattle.program.specs.Command.{Operand, clockName, accumulatorName, operatorCode, mask, bodyNumber, runCount, commandCount, cellNumber, valueByte, inside, rows, rowAt, commandOf}
 use Rattle.program.specs.Inner.Coding.{kindCode, ranges, withinCode, coded}
@@ -14,7 +14,7 @@ use Rattle.program.specs.Reading.{allInside, read}
 use Rattle.program.specs.declared.command.Command.{Command}
 use Rattle.program.specs.declared.reading.Reading.{Reading}
 use Rattle.program.specs.declared.reading.Reading.the-variants.{Whole, Unknown, Cut, Outside}
-use Rattle.program.proofs.Basic.{Bytes, and-true}
+use Rattle.program.proofs.Basic.{Bytes, true-false, and-true}
 use Rattle.program.proofs.RowLaws.{plain, plain-tail}
 
 -- Below a bound is from 0 to one less.
@@ -160,3 +160,35 @@ module _ (op : ℕ) (vs : List ℕ) (bytes : (i : ℕ) → getD vs i 0 < 256) (r
   pub third-left : withinCode (getD (coded (rowAt op)) 1 0) (getD vs 0 0) ≡ true → withinCode (getD (coded (rowAt op)) 2 0) (getD vs 1 0) ≡ true
       → withinCode (getD (coded (rowAt op)) 3 0) (getD vs 2 0) ≡ allInside (rowAt op .operands) vs
   third-left h g = sym (all-inside op vs bytes room ∙ rw (h, g))
+
+-- A WHOLE COMMAND
+
+whole-of : (x y z : Bool) (d : Command) (m : ℕ) {c : Command} {n : ℕ} → cond x Unknown (cond y Cut (cond z (Whole d m) Outside)) ≡ Whole c n → (x ≡ false) × (d ≡ c)
+whole-of true y z d m e = let q : _≡_ {A = ℕ} 0 1 = cc in absurd (omega arith)
+whole-of false true z d m e = let q : _≡_ {A = ℕ} 0 1 = cc in absurd (omega arith)
+whole-of false false false d m e = let q : _≡_ {A = ℕ} 0 1 = cc in absurd (omega arith)
+whole-of false false true d m e = (refl, cc)
+
+-- It has one of the seventeen bytes, and is the command of that byte.
+whole-command : (op : ℕ) (s : List ℕ) {c : Command} {n : ℕ} → read (op ∷ s) ≡ Whole c n → (leb (length rows) op ≡ false) × (commandOf op s ≡ c)
+unfolding read
+whole-command op s e =
+    let kinds = rowAt op .operands in
+    whole-of (leb (length rows) op) (ltb (length s) (length kinds)) (allInside kinds s) (commandOf op s) (length kinds + 1) e
+
+module _ (code : List ℕ) (offset : ℕ) {c : Command} {n : ℕ} (whole : read (drop offset code) ≡ Whole c n) where
+  -- It does not stand past the end.
+  pub whole-inside : length code ≤ offset → ⊥
+  unfolding read
+  whole-inside h = let e = rw (drop-of-length-le code h) at whole in let q : _≡_ {A = ℕ} 0 1 = cc in omega arith
+
+  module _ (more : offset < length code) where
+    split : read (getD code offset 0 ∷ drop (suc offset) code) ≡ Whole c n
+    split = rw (drop-cons code offset 0 more) at whole
+
+    pub whole-known : 17 ≤ getD code offset 0 → ⊥
+    unfolding rows
+    whole-known h = true-false _ (le-leb 17 (getD code offset 0) h) (whole-command (getD code offset 0) (drop (suc offset) code) split .0)
+
+    pub whole-is : commandOf (getD code offset 0) (drop (suc offset) code) ≡ c
+    whole-is = whole-command (getD code offset 0) (drop (suc offset) code) split .1

@@ -4,7 +4,7 @@ ghost use mathlib.Core.List.{[]};
 ghost use Prim.Native.Nat.{_<_, _≤_};
 ghost use lib.ListN.{length, getD, drop};
 ghost use Rattle.program.specs.Command.{word, rowAt};
-ghost use Rattle.program.specs.Inner.Coding.{ranges, withinCode, Made};
+ghost use Rattle.program.specs.Inner.Coding.{ranges, withinCode, Made, IsWhole};
 ghost use Rattle.program.specs.Reading.{read, allInside};
 use super::command::Command;
 use super::command::wide;
@@ -171,4 +171,21 @@ pub fn fetch(code: &[u8], offset: usize) -> Reading
     } else {
         Reading::Cut
     }
+}
+
+// The command at an offset where a whole one is known to stand: nothing is tested again.
+pub fn known(code: &[u8], offset: usize) -> Command
+    ensures { λ r. ⌜ IsWhole (read (drop offset (now (code .entry)))) r ⌝ }
+{
+    if code.len() <= offset {
+        return Command::End;
+    }
+    let op = wide(code[offset]);
+    if 17 <= op {
+        return Command::End;
+    }
+    let rest = &code[offset + 1..];
+    let x = byte_at(rest, 0);
+    let y = byte_at(rest, 1);
+    command_of(op, x, y, value_of(op, rest))
 }

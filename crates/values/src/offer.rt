@@ -12,6 +12,7 @@ use moves::is_spent;
 use parts::reduction::reduce;
 use rules::state::Fault;
 
+// OFFER: the accumulator under the name is reduced with the register.
 pub fn offer(work: u64, state: &mut [u8], i: usize, n: usize) -> u8
     ensures { λ r. ⌜ (n < 8 → Turns (Offer n) (now (state .entry)) (now (state .exit)) work i r) ⌝ }
 {

@@ -1,6 +1,5 @@
 -- One name after the other.
-use Prim.Native.Nat.{ℕ, _-_}
-use native.Mathlib.Omega.{arith}
+use Prim.Native.Nat.{_-_}
 use mathlib.Core.Path.{_≡_, refl, sym, _∙_}
 use lib.ListN.{length}
 use Rattle.bodies.proofs.Giving.{GivesTo, give-none, give-more, give-skip, give-done}

@@ -15,13 +15,14 @@ use Rattle.parts.specs.Shared.{whole}
 use Rattle.rules.specs.declared.state.State.{State}
 use Rattle.guards.specs.Views.{Fit, Sees}
 use Rattle.guards.specs.Facing.{Placed}
-use Rattle.machine.specs.Turn.{DueAt, Turned, Followable, answeredFrom}
+use Rattle.machine.specs.Turn.{DueAt, Turned}
+use Rattle.turns.specs.Turns.{Followable, answeredFrom}
 use Rattle.parts.specs.declared.shared.Shared.{Shared}
 use Rattle.guards.proofs.Facing.{able, rooted, placed, unspawned}
 use Rattle.machine.proofs.Turns.{turned-down}
 use Rattle.guards.proofs.Views.{wait-asked, wait-unasked}
 use Rattle.machine.proofs.Dues.{entered-one, entered-none, rewritten, unwritten, stored}
-use Rattle.machine.proofs.Runs.{Under, under-start, fit-here, under-advance, under-end}
+use Rattle.turns.proofs.Runs.{Under, under-start, fit-here, under-advance, under-end}
 use Rattle.machine.proofs.advance.follow.Statement.{statement}
 use Rattle.machine.proofs.advance.follow.Tie as tie
 

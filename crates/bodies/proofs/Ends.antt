@@ -1,0 +1,124 @@
+-- END.
+use Prim.Native.Nat.{ℕ, suc, _+_, _-_, _*_, _^_, _≤_, _<_}
+use native.Mathlib.Omega.{arith}
+use native.Mathlib.Nat.{add-assoc}
+use mathlib.Core.Path.{_≡_, refl, sym, ap, _∙_, subst}
+use mathlib.Core.List.{List}
+use mathlib.Core.Bool.{Bool, true, false, cond}
+use lib.Seq.{getD-set-other}
+use lib.Dec.{leb}
+use borrow.Author.Tests.{le-leb, lt-leb, lt-ltb, le-ltb}
+use Rattle.program.specs.Command.{rows, rowAt, rowOf, isEnd, width, held}
+use Rattle.program.specs.Bodies.{programOf}
+use Rattle.program.specs.declared.command.Command.{Command}
+use Rattle.program.specs.declared.command.Command.the-variants.{End}
+use Rattle.rules.specs.declared.state.Status.the-variants.{Ended}
+use Rattle.rules.specs.declared.state.Frame.{Frame}
+use Rattle.rules.specs.declared.state.Activity.{Activity}
+use Rattle.rules.specs.declared.state.State.{State}
+use Rattle.rules.specs.State.{noFrame, act, frame, top}
+use Rattle.rules.specs.Tree.{here, nextOffset, isFinish}
+use Rattle.rules.specs.WellFormed.{isPlaced}
+use Rattle.rules.specs.Faults.{faultFor}
+use Rattle.rules.specs.Effects.{alone, stopped, withTop, past, again, popped, endOf, effectOf}
+use Rattle.rules.proofs.WellFormedStack.{Ran, byFinish, byRepeat, ran-going, Stack}
+use Rattle.rules.proofs.WellFormedFacts.{facts}
+use Rattle.guards.specs.Known.{Known}
+use Rattle.guards.specs.Exceeding.{overfull}
+use Rattle.guards.proofs.Places.{next-is, next-small}
+use Rattle.fields.specs.Lent.{Lent, ReadsAct, WritesAct, withAct, withSteps, withFrame, withDepth, onward}
+use Rattle.moves.specs.Moves.{Standing, Turned, Counts, GoesOn}
+use Rattle.bodies.specs.Pops.{lower, Pops}
+use Rattle.moves.proofs.Withs.{act-with, with-with, steps-with, then}
+use Rattle.moves.proofs.Standings.{spawned, few, fault-here, plain, calm, steps-room, shallow, done-alone}
+
+pub pop-done : {b b₁ b₂ b₃ : List ℕ} {i d size r : ℕ} {f : Frame} → f ≡ noFrame → (d - 1 < 16 → WritesAct (λ (a : Activity). withFrame a (d - 1) f) b b₁ i)
+    → WritesAct (λ (a : Activity). withDepth a (d - 1)) b₁ b₂ i → GoesOn b₂ b₃ i size r → Pops b b₃ i d size r
+pop-done {i = i} {d = d} q f g k =
+    record {
+      number = k .number;
+      pops =
+          λ s l j room e some few fits.
+          let x = lower (act s i) in
+          let n : act (withAct s i x) i ≡ x = act-with x l j in
+          let m : Lent _ (withAct s i x) = rw (q, e) at (then (f (omega arith)) g .writes s l j) in
+          let o = k .goes _ m j (rw (steps-with s i x) room) (rw n (omega arith)) (rw n (omega arith)) (rw n fits) in
+          rw (n, with-with, steps-with s i x) at o;
+    }
+
+-- the bytes of what runs a body
+size-of : {made : ℕ} {o : Command} {f : Frame} → Ran made o f → width o + 2 * held o ≡ cond (isFinish o) 2 3
+unfolding width held rowOf rowAt rows
+size-of (byFinish b e p q r) = rw e
+size-of (byRepeat n b e p q r u) = rw e
+
+module _ {t starts b : List ℕ} {s : State} {i work d : ℕ} (k : Known t starts) (l : Lent b s) (w : Standing (programOf t) s i work End) (left : false ≡ leb work (s .steps))
+    (deep : ReadsAct (λ (a : Activity). a .depth) b i d) where
+  depth : d ≡ act s i .depth
+  depth = deep .reads s l (few w)
+
+  stack : Stack (programOf t) (s .activities) (act s i .depth) (act s i .frames)
+  stack = facts 65535 (programOf t) s (w .formed) .spawned i (spawned w) .stack
+
+  -- the activity after it
+  after : {b₁ : List ℕ} {r : ℕ} (x : Activity) → endOf (programOf t) (act s i) ≡ x → Lent b₁ (withSteps (withAct s i x) (s .steps + 1)) → r ≡ 0 → x .status ≡ act s i .status
+      → Turned (programOf t) s i b₁ r
+  unfolding faultFor effectOf overfull
+  after x e m n q = done-alone w (fault-here w) (plain w left refl (λ o. omega arith)) x (ap alone e) m (n ∙ sym (rw q (calm w)))
+
+  pub ended : {b₁ b₂ : List ℕ} {r : ℕ} → d ≤ 1 → WritesAct (λ (a : Activity). stopped a Ended) b b₁ i → Counts b₁ b₂ r → Turned (programOf t) s i b₂ r
+  unfolding faultFor effectOf overfull endOf withAct
+  ended h f g =
+      let x = stopped (act s i) Ended in
+      let e = depth in
+      let q : endOf (programOf t) (act s i) ≡ x = rw (le-leb (act s i .depth) 1 (omega arith)) in
+      done-alone w (fault-here w) (plain w left refl (λ o. omega arith)) x (ap alone q) (g .counts _ (f .writes s l (few w)) (steps-room w left)) (g .number)
+
+  module _ (h : 1 < d) {f : Frame} (read : d - 1 < 16 → ReadsAct (λ (a : Activity). frame a (d - 1)) b i f) where
+    low : d - 1 < 16
+    low = let m = shallow w in let e = depth in omega arith
+
+    upper : f ≡ top (act s i)
+    upper = read low .reads s l (few w) ∙ rw depth
+
+    pub reran : {b₁ b₂ : List ℕ} {r : ℕ} → 1 < f .runs
+        → (d - 1 < 16 → WritesAct (λ (a : Activity). withFrame a (d - 1) (record { offset = 0; body = f .body; runs = f .runs - 1; first = f .first })) b b₁ i) → Counts b₁ b₂ r
+        → Turned (programOf t) s i b₂ r
+    unfolding endOf again withAct
+    reran m put g =
+        let e = depth in
+        let q : endOf (programOf t) (act s i) ≡ again (act s i) = rw (lt-leb (act s i .depth) 1 (omega arith), lt-ltb 1 (top (act s i) .runs) (rw (← upper) m)) in
+        after (again (act s i)) q (g .counts _ (rw (depth, upper) at (put low .writes s l (few w))) (steps-room w left)) (g .number) refl
+
+    -- what stands below
+    module _ {g : Frame} (look : d - 1 - 1 < 16 → ReadsAct (λ (a : Activity). frame a (d - 1 - 1)) b i g) where
+      under : g ≡ frame (act s i) (act s i .depth - 1 - 1)
+      under = look (let m = low in omega arith) .reads s l (few w) ∙ rw depth
+
+      top-is : top (lower (act s i)) ≡ g
+      top-is = getD-set-other (act s i .frames) (act s i .depth - 1) (act s i .depth - 1 - 1) noFrame noFrame (λ q. let e = depth in omega arith) ∙ sym under
+
+      placed : isPlaced (programOf t) g ≡ true
+      placed = rw under (stack .placed (act s i .depth - 1 - 1) (let e = depth in omega arith))
+
+      runs-it : Ran (s .activities) (here (programOf t) g .command) (frame (act s i) (suc (act s i .depth - 1 - 1)))
+      runs-it = rw under (stack .stacked (act s i .depth - 1 - 1) (let e = depth in omega arith) .by)
+
+      pub popped-out : {b₁ : List ℕ} {x y : Bool} {size r : ℕ} → f .runs ≤ 1 → (Known t starts → isPlaced (programOf t) g ≡ true → x ≡ isFinish (here (programOf t) g .command)) → x ≡ y
+          → cond y 2 3 ≡ size → Pops b b₁ i d size r → Turned (programOf t) s i b₁ r
+      unfolding endOf popped past withAct
+      popped-out {b₁} {x} {y} {size} {r} once test e z o =
+          let goes : isEnd (here (programOf t) g .command) ≡ false = ran-going runs-it in
+          let n : nextOffset (programOf t) g ≡ g .offset + size =
+          next-is t (k .scanned) g placed goes
+          ∙ add-assoc (g .offset) (width (here (programOf t) g .command)) (2 * held (here (programOf t) g .command))
+          ∙ rw (size-of runs-it, sym (test k placed), e, z) in
+          let small = next-small t (k .scanned) g placed goes in
+          let fits : top (lower (act s i)) .offset + size < 2 ^ 16 = rw top-is (omega arith) in
+          let q : endOf (programOf t) (act s i) ≡ popped (programOf t) (act s i) =
+          let e = depth in
+          rw (lt-leb (act s i .depth) 1 (omega arith), le-ltb 1 (top (act s i) .runs) (rw (← upper) once)) in
+          let v : top (lower (act s i)) .offset + size ≡ nextOffset (programOf t) (top (lower (act s i))) = rw top-is (sym n) in
+          let m = o .pops s l (few w) (steps-room w left) depth h (rw depth (shallow w)) fits in
+          after (popped (programOf t) (act s i)) q
+          (subst (λ (j : ℕ). Lent b₁ (withSteps (withAct s i (withTop (lower (act s i)) (onward (top (lower (act s i))) j))) (s .steps + 1))) v m) (o .number) refl

@@ -1,0 +1,60 @@
+-- FINISH and REPEAT.
+use Prim.Native.Nat.{ℕ, zero, suc, _+_, _<_}
+use native.Mathlib.Omega.{arith}
+use mathlib.Core.Path.{_≡_, refl, sym, ap, _∙_}
+use mathlib.Core.List.{List}
+use mathlib.Core.Bool.{false}
+use lib.Dec.{leb}
+use Rattle.program.specs.Command.{rows, rowAt, rowOf, names, isEnd, width, held}
+use Rattle.program.specs.Bodies.{Program}
+use Rattle.program.specs.declared.command.Command.the-variants.{Finish, Repeat}
+use Rattle.rules.specs.declared.state.Frame.{Frame}
+use Rattle.rules.specs.declared.state.Activity.{Activity}
+use Rattle.rules.specs.declared.state.State.{State}
+use Rattle.rules.specs.State.{act}
+use Rattle.rules.specs.Faults.{faultFor}
+use Rattle.rules.specs.Effects.{alone, past, pushed, repeatOf, effectOf}
+use Rattle.guards.specs.Exceeding.{overfull}
+use Rattle.fields.specs.Lent.{Lent, Reads, ReadsAct, WritesAct, withAct, withFrame, withDepth}
+use Rattle.moves.specs.Moves.{Standing, Turned, Counts, GoesOn}
+use Rattle.bodies.specs.Pushes.{Pushes}
+use Rattle.moves.proofs.Withs.{then}
+use Rattle.moves.proofs.Standings.{few, fault-here, plain, calm, steps-room, went, done-alone}
+
+abbrev pub begun : ℕ → ℕ → ℕ → Frame
+begun body runs first = record { offset = 0; body = body; runs = runs; first = first }
+
+pub push-done : {b b₁ b₂ b₃ : List ℕ} {i d body runs first r : ℕ} → ReadsAct (λ (a : Activity). a .depth) b i d
+    → (d < 16 → WritesAct (λ (a : Activity). withFrame a d (begun body runs first)) b b₁ i) → WritesAct (λ (a : Activity). withDepth a (d + 1)) b₁ b₂ i
+    → Counts b₂ b₃ r → Pushes body runs first b b₃ i r
+unfolding pushed withAct
+push-done {i = i} {d = d} f g h k =
+    record {
+      number = k .number;
+      pushes =
+          λ s l j room deep.
+          let e : d ≡ act s i .depth = f .reads s l j in
+          k .counts _ (rw e at (then (g (rw e deep)) h .writes s l j)) room;
+    }
+
+module _ {b b₁ : List ℕ} {p : Program} {s : State} {i work : ℕ} (l : Lent b s) (left : false ≡ leb work (s .steps)) where
+  pub finish-done : {body first r : ℕ} → Standing p s i work (Finish body) → Reads (λ (t : State). t .activities) b first → Pushes body 0 first b b₁ i r → Turned p s i b₁ r
+  unfolding faultFor effectOf overfull pushed names rowOf rowAt rows
+  finish-done {body = body} w f g =
+      let x = pushed (act s i) body 0 (s .activities) in
+      let m = rw (f .reads s l) at (g .pushes s l (few w) (steps-room w left) (w .deep refl)) in
+      done-alone w (fault-here w) (plain w left refl (λ q. omega arith)) x refl m (g .number ∙ sym (calm w))
+
+  pub repeat-none : {n body r : ℕ} → Standing p s i work (Repeat n body) → n ≡ 0 → GoesOn b b₁ i 3 r → Turned p s i b₁ r
+  unfolding faultFor effectOf overfull repeatOf past width held rowOf rowAt rows isEnd
+  repeat-none {n} w e g = done-alone w (fault-here w) (plain w left refl (λ q. omega arith)) (past p (act s i)) (rw e) (went w refl refl left l refl refl refl g) (g .number ∙ sym (calm w))
+
+  pub repeat-some : {n body r : ℕ} → Standing p s i work (Repeat n body) → (n ≡ 0 → ⊥) → Pushes body n 0 b b₁ i r → Turned p s i b₁ r
+  unfolding faultFor effectOf overfull pushed repeatOf names rowOf rowAt rows
+  repeat-some {n} {body} w e g =
+      let x = pushed (act s i) body n 0 in
+      done-alone w (fault-here w) (plain w left refl (λ q. omega arith)) x (ap alone (runs n e)) (g .pushes s l (few w) (steps-room w left) (w .deep refl)) (g .number ∙ sym (calm w))
+    where
+      runs : (n : ℕ) → (n ≡ 0 → ⊥) → repeatOf p (act s i) n body ≡ pushed (act s i) body n 0
+      runs zero h = absurd (h refl)
+      runs (suc n) h = refl

@@ -1,0 +1,64 @@
+// END.
+ghost use Rattle.program.specs.declared.command.Command.the-variants.{End};
+ghost use Rattle.moves.specs.Moves.{TurnsIn};
+ghost use Rattle.bodies.specs.Pops.{Pops};
+use fields::activities::depth_at;
+use fields::activities::put_depth;
+use fields::frames::frame_at;
+use fields::frames::put_frame;
+use moves::counted;
+use moves::go_on;
+use moves::is_spent;
+use moves::stop;
+use parts::empty::no_frame;
+use places::is_finish;
+use rules::state::Frame;
+use rules::state::Status;
+
+// The top body is gone, and the one below goes on after its command, so many bytes on.
+fn pop(state: &mut [u8], i: usize, depth: u8, size: u16) -> u8
+    ensures { λ r. ⌜ Pops (now (state .entry)) (now (state .exit)) i depth size r ⌝ }
+{
+    if depth == 0 {
+        return 0;
+    }
+    let less = depth - 1;
+    put_frame(state, i, less as usize, no_frame());
+    put_depth(state, i, less);
+    go_on(state, i, size)
+}
+
+// END: of the lowest body it ends the activity; a body with runs left runs again; any other is left, and FINISH is 2 bytes, REPEAT 3.
+pub fn end(table: &[u8], starts: &[usize], work: u64, state: &mut [u8], i: usize) -> u8
+    ensures { λ r. ⌜ TurnsIn (now (table .entry)) (now (starts .entry)) End (now (state .entry)) (now (state .exit)) work i r ⌝ }
+{
+    if is_spent(state, work) {
+        return 17;
+    }
+    let depth = depth_at(state, i);
+    if depth <= 1 {
+        stop(state, i, Status::Ended);
+        return counted(state);
+    }
+    let at = depth as usize - 1;
+    let f = frame_at(state, i, at);
+    if 1 < f.runs {
+        let runs = f.runs - 1;
+        put_frame(
+            state,
+            i,
+            at,
+            Frame {
+                offset: 0,
+                runs,
+                ..f
+            },
+        );
+        return counted(state);
+    }
+    let below = frame_at(state, i, at - 1);
+    if is_finish(table, starts, below) {
+        return pop(state, i, depth, 2);
+    }
+    pop(state, i, depth, 3)
+}

@@ -1,0 +1,38 @@
+-- A turn of any activity, and an order of turns: what is promised of the lent bytes.
+use Prim.Native.Nat.{ℕ, _≤_, _<_}
+use mathlib.Core.Path.{_≡_}
+use mathlib.Core.List.{List, map, _++_}
+use mathlib.Core.Bool.{true}
+use lib.ListN.{length, take, drop}
+use Rattle.program.specs.Bodies.{programOf}
+use Rattle.program.specs.Count.{workOf}
+use Rattle.program.specs.Table.{workLimit, numberOf}
+use Rattle.rules.specs.declared.state.State.{State}
+use Rattle.rules.specs.State.{answerNumber}
+use Rattle.rules.specs.WellFormed.{wellFormed}
+use Rattle.rules.specs.Steps.{base}
+use Rattle.rules.specs.Runs.{runFrom, answersFrom}
+use Rattle.guards.specs.Known.{Known}
+use Rattle.fields.specs.Lent.{Lent}
+use Rattle.moves.specs.Moves.{Turned}
+
+-- A turn of activity i, whichever number it is, of a well-formed state: numbers 14 to 17, or the one next state.
+pub record TurnsAny (t starts b c : List ℕ) (work i r : ℕ) : Type 0 where
+  pub turns : Known t starts → work ≡ workOf (programOf t) → work ≤ workLimit → (s : State) → Lent b s → wellFormed 65535 (programOf t) s ≡ true → Turned (programOf t) s i c r
+
+-- An order that can be followed: each state on the way is well-formed, and there is room for an answer to each step.
+pub record Followable (t : List ℕ) (starts : List ℕ) (work : ℕ) (s : State) (order : List ℕ) (room : ℕ) : Type 0 where
+  pub known : Known t starts
+  pub accepted : numberOf workLimit t ≡ 0
+  pub counted : work ≡ workOf (programOf t)
+  pub small : work ≤ workLimit
+  pub formed : (k : ℕ) → k < length order → wellFormed 65535 (programOf t) (runFrom base t s (take k order)) ≡ true
+  pub fits : length order ≤ room
+
+-- The answers at the buffer's start; what is past them stays.
+unfoldable pub answeredFrom : List ℕ → State → List ℕ → List ℕ → List ℕ
+answeredFrom t s order buffer = map answerNumber (answersFrom base t s order) ++ drop (length order) buffer
+
+-- The bytes go over into those of the state that the order leads to, and the answers stand in the buffer.
+pub record Follows (t starts : List ℕ) (work : ℕ) (order before after b c : List ℕ) : Type 0 where
+  pub follows : (s : State) → Lent b s → Followable t starts work s order (length before) → Lent c (runFrom base t s order) × (after ≡ answeredFrom t s order before)

@@ -1,0 +1,1 @@
+// Turns in the lent bytes, one after another.

@@ -1,0 +1,3 @@
+pub mod Behinds
+pub mod Insides
+pub mod Waitings

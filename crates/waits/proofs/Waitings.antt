@@ -1,0 +1,219 @@
+-- Who waits, by the command: END of a FINISH body, who is at a meeting, READ and RESET.
+use Prim.Native.Nat.{ℕ, _-_, _≤_, _<_}
+use native.Mathlib.Omega.{arith}
+use mathlib.Core.Path.{_≡_, refl, sym, ap, _∙_, subst}
+use mathlib.Core.List.{List, [], _∷_}
+use mathlib.Core.Bool.{Bool, true, false, _&&_}
+use lib.Dec.{ltb, eqb}
+use borrow.Author.Tests.{ltb-true, lt-ltb, le-ltb, eq-eqb, ne-eqb}
+use types.Run.{OneOf, miss}
+use denote.Enum.Declared.{tagOf}
+use Rattle.program.specs.Command.{rows, rowAt, rowOf}
+use Rattle.program.specs.Bodies.{Program, programOf}
+use Rattle.program.specs.declared.command.Command.{Command}
+use Rattle.program.specs.declared.command.Command.the-variants.{End, Next, Clock, Resume, Drop, Async, Finish, Repeat, Acc, Offer, Read, Reset, Put, Fetch, Store, Add, Atom}
+use Rattle.program.proofs.command.Command.{the-type}
+use Rattle.program.proofs.Basic.{and-true}
+use Rattle.program.proofs.Shape.{Ranged}
+use Rattle.rules.specs.declared.state.Status.{Status}
+use Rattle.rules.specs.declared.state.Frame.{Frame}
+use Rattle.rules.specs.declared.state.Activity.{Activity}
+use Rattle.rules.specs.declared.state.State.{State}
+use Rattle.rules.specs.Search.{someBelow}
+use Rattle.rules.specs.State.{act, frame, top, bound, ended, isAtBarrier}
+use Rattle.rules.specs.Tree.{here, isFinish, finishes, inFinishBody}
+use Rattle.rules.specs.WellFormed.{isPlaced, wellFormed}
+use Rattle.rules.specs.Faults.{readFault, faultFor}
+use Rattle.rules.specs.Effects.{envOf}
+use Rattle.rules.specs.Waiting.{behindOf, unendedBelow, unendedInside, waitsFor, waitsAt}
+use Rattle.rules.specs.Steps.{at, fault, waits}
+use Rattle.rules.proofs.WellFormedFacts.{Facts, facts}
+use Rattle.guards.specs.Known.{Known}
+use Rattle.guards.specs.Stack.{Stacked}
+use Rattle.guards.specs.Facing.{Rooted, Placed}
+use Rattle.guards.specs.Views.{Fit}
+use Rattle.guards.proofs.Chains.{unended-below}
+use Rattle.guards.proofs.Facing.{nobody-waited, guard-shut, guard-open, placed, rooted}
+use Rattle.guards.proofs.Places.{sound-here}
+use Rattle.fields.specs.Lent.{Lent, ReadsAct}
+use Rattle.moves.specs.Moves.{ReadFault}
+use Rattle.waits.specs.Waits.{Inside, Behind, EndWaits, NextWaits, OwnWaits, Waits}
+
+-- END
+
+module _ {t starts b : List ℕ} {i x d : ℕ} (depth : ReadsAct (λ (a : Activity). a .depth) b i x) (same : d ≡ x) where
+  -- a stack of one body has none below it
+  pub end-alone : d ≤ 1 → EndWaits t starts b i false
+  unfolding waitsAt waitsFor inFinishBody
+  end-alone h = record {
+    tells =
+        λ s l j k.
+        let a = act s i in
+        let e : d ≡ a .depth = same ∙ depth .reads s l j in
+        let z : false ≡ inFinishBody (programOf t) a = rw (le-ltb 1 (a .depth) (omega arith)) in
+        guard-shut (s .activities) (waitsFor (programOf t) s i a End) (unendedInside s i (top a .first)) (λ n. refl) z refl;
+  }
+
+  module _ {y : Frame} {q : Bool} (deep : 1 < d) (below : d - 2 < 16 → ReadsAct (λ (a : Activity). frame a (d - 2)) b i y)
+      (runs : Known t starts → isPlaced (programOf t) y ≡ true → q ≡ isFinish (here (programOf t) y .command)) where
+    -- the body at the top is one that a FINISH runs
+    in-finish : (s : State) → Lent b s → i < 64 → Placed t starts s (act s i) → q ≡ inFinishBody (programOf t) (act s i)
+    unfolding inFinishBody finishes
+    in-finish s l j k =
+        let a = act s i in
+        let e : d ≡ a .depth = same ∙ depth .reads s l j in
+        let few = k .stack .few in
+        let f : y ≡ frame a (a .depth - 2) = below (omega arith) .reads s l j ∙ ap (λ (n : ℕ). frame a (n - 2)) e in
+        let on : isPlaced (programOf t) y ≡ true = rw f (k .stack .placed (a .depth - 2) (omega arith)) in
+        rw (lt-ltb 1 (a .depth) (omega arith)) (runs (k .known) on ∙ ap (λ (z : Frame). isFinish (here (programOf t) z .command)) f)
+
+    pub end-elsewhere : q ≡ false → EndWaits t starts b i false
+    unfolding waitsAt waitsFor
+    end-elsewhere n = record {
+      tells =
+          λ s l j k.
+          let a = act s i in
+          guard-shut (s .activities) (waitsFor (programOf t) s i a End) (unendedInside s i (top a .first)) (λ n. refl) (in-finish s l j k) n;
+    }
+
+    pub end-inside : {z : Frame} {first : ℕ} {r : Bool} → q ≡ true → (d - 1 < 16 → ReadsAct (λ (a : Activity). frame a (d - 1)) b i z) → first ≡ z .first → Inside b i first r
+        → EndWaits t starts b i r
+    unfolding waitsAt waitsFor
+    end-inside {first = first} {r = r} n own from g = record {
+      tells =
+          λ s l j k.
+          let a = act s i in
+          let e : d ≡ a .depth = same ∙ depth .reads s l j in
+          let few = k .stack .few in
+          let f : first ≡ top a .first = from ∙ ap (λ (u : Frame). u .first) (own (omega arith) .reads s l j ∙ ap (λ (m : ℕ). frame a (m - 1)) e) in
+          guard-open (s .activities) (waitsFor (programOf t) s i a End) (unendedInside s i (top a .first)) (λ n. refl) (in-finish s l j k) n
+          (subst (λ (m : ℕ). r ≡ someBelow (s .activities) (unendedInside s i m)) f (g .sees s l (k .rooted)));
+    }
+
+-- NEXT
+
+module _ {b : List ℕ} {i : ℕ} {x : Status} {q : Bool} (status : ReadsAct (λ (a : Activity). a .status) b i x) (test : q ≡ isAtBarrier x) where
+  at-barrier : (s : State) → Lent b s → i < 64 → q ≡ isAtBarrier (act s i .status)
+  at-barrier s l j = test ∙ ap isAtBarrier (status .reads s l j)
+
+  pub next-elsewhere : q ≡ false → NextWaits b i false
+  unfolding waitsAt waitsFor
+  next-elsewhere n = record {
+    tells = λ p s l j k. guard-shut (s .activities) (waitsFor p s i (act s i) Next) (behindOf s (act s i)) (λ n. refl) (at-barrier s l j) n;
+  }
+
+  pub next-behind : {r : Bool} → q ≡ true → Behind b i r → NextWaits b i r
+  unfolding waitsAt waitsFor
+  next-behind n g = record {
+    tells = λ p s l j k. guard-open (s .activities) (waitsFor p s i (act s i) Next) (behindOf s (act s i)) (λ n. refl) (at-barrier s l j) n (g .sees s l j (k .few));
+  }
+
+-- READ AND RESET
+
+module _ {b : List ℕ} {i n f : ℕ} (meets : ReadFault b i n f) where
+  pub own-faulty : (f ≡ 0 → ⊥) → OwnWaits n b i false
+  own-faulty h = record { tells = λ s l j m k. rw (ne-eqb (readFault (envOf s) i (act s i) n) 0 (λ z. h (meets .reads s l j m ∙ z))) }
+
+  pub own-inside : {r : Bool} → f ≡ 0 → Inside b i 0 r → OwnWaits n b i r
+  own-inside h g = record {
+    tells = λ s l j m k. rw (eq-eqb (readFault (envOf s) i (act s i) n) 0 (sym (meets .reads s l j m) ∙ h)) (g .sees s l k ∙ sym (unended-below s i));
+  }
+
+-- THE COMMAND
+
+abbrev others : List ℕ
+others = 2 ∷ 3 ∷ 4 ∷ 5 ∷ 6 ∷ 7 ∷ 8 ∷ 9 ∷ 12 ∷ 13 ∷ 14 ∷ 15 ∷ 16 ∷ []
+
+-- Any other command waits for nobody.
+other-waits : (p : Program) (s : State) (i : ℕ) (a : Activity) (c : Command) → OneOf others (tagOf the-type c) → (x : ℕ) → waitsFor p s i a c x ≡ false
+unfolding waitsFor
+other-waits p s i a End h x = absurd (miss others 0 tt h)
+other-waits p s i a Next h x = absurd (miss others 1 tt h)
+other-waits p s i a (Clock c) h x = refl
+other-waits p s i a (Resume c) h x = refl
+other-waits p s i a (Drop c) h x = refl
+other-waits p s i a (Async b m) h x = refl
+other-waits p s i a (Finish b) h x = refl
+other-waits p s i a (Repeat n b) h x = refl
+other-waits p s i a (Acc n o) h x = refl
+other-waits p s i a (Offer n) h x = refl
+other-waits p s i a (Read n) h x = absurd (miss others 10 tt h)
+other-waits p s i a (Reset n) h x = absurd (miss others 11 tt h)
+other-waits p s i a (Put v) h x = refl
+other-waits p s i a (Fetch d) h x = refl
+other-waits p s i a (Store d) h x = refl
+other-waits p s i a (Add d) h x = refl
+other-waits p s i a (Atom k) h x = refl
+
+and-false : (b : Bool) → b && false ≡ false
+and-false true = refl
+and-false false = refl
+
+read-small : {n : ℕ} → Ranged (Read n) → n < 8
+unfolding Ranged rowOf rowAt rows
+read-small {n} r = ltb-true n 8 (and-true (ltb n 8) true r .0)
+
+reset-small : {n : ℕ} → Ranged (Reset n) → n < 8
+unfolding Ranged rowOf rowAt rows
+reset-small {n} r = ltb-true n 8 (and-true (ltb n 8) true r .0)
+
+-- what a well-formed state gives
+fit-of : {t starts : List ℕ} {s : State} → Known t starts → wellFormed 65535 (programOf t) s ≡ true → Fit t starts s
+fit-of k w = record { known = k; formed = w }
+
+module _ {t starts : List ℕ} {s : State} (f : Fit t starts s) {i : ℕ} (m : i < s .activities) where
+  fact : Facts 65535 (programOf t) s
+  fact = facts 65535 (programOf t) s (f .formed)
+
+  few-of : i < 64
+  few-of = let h = fact .acts64 in omega arith
+
+  bound-of : {n : ℕ} → n < 8 → bound (act s i) n ≤ 16
+  bound-of {n} h = let x = fact .spawned i m .bounds n h in let y = fact .accs16 in omega arith
+
+  ranged-here : ended s i ≡ false → Ranged (at (programOf t) s i .command)
+  unfolding at
+  ranged-here u =
+      let k = placed f m u .stack in
+      let some = k .some in
+      sound-here t (f .known .scanned) (top (act s i)) (k .placed (act s i .depth - 1) (omega arith)) .ranged
+
+own-tells : {t starts b : List ℕ} {s : State} {i n y : ℕ} {r : Bool} → y ≡ n → (y < 8 → OwnWaits y b i r) → Lent b s → Fit t starts s → i < s .activities → n < 8
+    → r ≡ eqb (readFault (envOf s) i (act s i) n) 0 && someBelow (s .activities) (unendedBelow s i)
+own-tells {s = s} same g l f m h = let own = rw same at g in own h .tells s l (few-of f m) (bound-of f m h) (rooted f)
+
+module _ {t starts b : List ℕ} {i : ℕ} {c : Command} where
+  pub waits-end : {r : Bool} → c ≡ End → EndWaits t starts b i r → Waits t starts c b i r
+  unfolding waits fault faultFor
+  waits-end e g = record {
+    tells = λ k s l w m u a. let f = fit-of k w in rw (a ∙ e) (g .tells s l (few-of f m) (placed f m u));
+  }
+
+  pub waits-next : {r : Bool} → c ≡ Next → NextWaits b i r → Waits t starts c b i r
+  unfolding waits fault faultFor
+  waits-next e g = record {
+    tells = λ k s l w m u a. let f = fit-of k w in rw (a ∙ e) (g .tells (programOf t) s l (few-of f m) (rooted f));
+  }
+
+  module _ {n y : ℕ} {r : Bool} (same : y ≡ n) (g : y < 8 → OwnWaits y b i r) where
+    pub waits-read : c ≡ Read n → Waits t starts c b i r
+    unfolding waits fault faultFor waitsAt waitsFor
+    waits-read e = record {
+      tells = λ k s l w m u a. let f = fit-of k w in rw (a ∙ e) (own-tells same g l f m (read-small (subst Ranged (a ∙ e) (ranged-here f m u))));
+    }
+
+    pub waits-reset : c ≡ Reset n → Waits t starts c b i r
+    unfolding waits fault faultFor waitsAt waitsFor
+    waits-reset e = record {
+      tells = λ k s l w m u a. let f = fit-of k w in rw (a ∙ e) (own-tells same g l f m (reset-small (subst Ranged (a ∙ e) (ranged-here f m u))));
+    }
+
+pub waits-other : {t starts b : List ℕ} {i : ℕ} (c : Command) → OneOf others (tagOf the-type c) → Waits t starts c b i false
+unfolding waits waitsAt
+waits-other {t} {i = i} c h = record {
+  tells =
+      λ k s l w m u a.
+      let p = programOf t in
+      let q : someBelow (s .activities) (waitsFor p s i (act s i) c) ≡ false = nobody-waited (s .activities) (waitsFor p s i (act s i) c) (other-waits p s i (act s i) c h) in
+      rw (a, q, and-false (eqb (fault p s i) 0));
+}
