@@ -4,7 +4,6 @@ use native.Mathlib.Omega.{arith}
 use mathlib.Core.Path.{_≡_, refl, sym, ap, _∙_}
 use mathlib.Core.List.{List}
 use mathlib.Core.Bool.{Bool, true, false}
-use lib.ListN.{set}
 use lib.Dec.{leb}
 use Rattle.program.specs.Command.{rows, rowAt, rowOf, isEnd, width, held}
 use Rattle.program.specs.Bodies.{Program}
@@ -16,7 +15,7 @@ use Rattle.rules.specs.declared.state.State.{State}
 use Rattle.rules.specs.State.{act, noHold, hold}
 use Rattle.rules.specs.Clocks.{isHeld, holds, quiesce}
 use Rattle.rules.specs.Faults.{faultFor}
-use Rattle.rules.specs.Effects.{withHolds, past, effectOf, envOf}
+use Rattle.rules.specs.Effects.{past, effectOf}
 use Rattle.rules.specs.Steps.{fault}
 use Rattle.guards.specs.Exceeding.{overfull}
 use Rattle.fields.specs.Lent.{Lent, ReadsAct, WritesAct, withAct, withHold, withSteps}

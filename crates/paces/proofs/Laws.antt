@@ -16,8 +16,8 @@ use Rattle.rules.specs.Steps.{base, startState, startWith, start}
 use Rattle.rules.proofs.Tests.{decide}
 use Rattle.rules.proofs.Demand3.{answers-start}
 use Rattle.machine.specs.Ran.{answered}
-use Rattle.machine.specs.Turn.{answeredFrom}
-use Rattle.machine.proofs.Runs.{Under, under-end}
+use Rattle.turns.specs.Turns.{answeredFrom}
+use Rattle.turns.proofs.Runs.{Under, under-end}
 use Rattle.paces.specs.Number.{pacesNumber}
 
 -- THE START

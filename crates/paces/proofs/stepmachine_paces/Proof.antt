@@ -5,7 +5,7 @@ use mathlib.Core.Path.{_≡_, sym, _∙_}
 use lib.ListN.{length}
 use Rattle.program.specs.Table.{workLimit, numberOf}
 use Rattle.rules.specs.Steps.{startState}
-use Rattle.machine.proofs.Runs.{Under, under-start, under-step}
+use Rattle.turns.proofs.Runs.{Under, under-start, under-step}
 use Rattle.paces.proofs.Laws.{start-number, start-state, paces-refused, paces-short, paces-done}
 use Rattle.paces.proofs.stepmachine_paces.Statement.{statement}
 use Rattle.paces.proofs.stepmachine_paces.Tie as tie

@@ -1,0 +1,4 @@
+pub mod Operands
+pub mod Small
+pub mod Formed
+pub mod Fitting

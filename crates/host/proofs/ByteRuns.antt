@@ -1,0 +1,196 @@
+-- The calls over bytes in turn follow the run of the rules, and so demand 3 holds for them.
+use Prim.Native.Nat.{ℕ}
+use native.Mathlib.Omega.{arith}
+use mathlib.Core.List.{List, [], _∷_, map}
+use mathlib.Core.Bool.{true, false, _&&_}
+use mathlib.Core.Path.{_≡_, refl, sym, ap, _∙_}
+use lib.ListN.{length}
+use lib.Dec.{leb, eqb}
+use borrow.Author.Tests.{eq-eqb, ne-eqb, leb-true, lt-leb}
+use Rattle.program.specs.Table.{workLimit, numberOf}
+use Rattle.program.proofs.Basic.{Bytes}
+use Rattle.rules.specs.declared.state.Fault.the-variants.{F1, F2, F3, F4, F5, F6, F7}
+use Rattle.rules.specs.declared.state.Status.the-variants.{Running, AtBarrier, Ended, Faulted}
+use Rattle.rules.specs.declared.state.State.{State}
+use Rattle.rules.specs.declared.answer.Answer.{Answer}
+use Rattle.rules.specs.declared.answer.Answer.the-variants.{Accepted, Refused}
+use Rattle.rules.specs.State.{answerNumber}
+use Rattle.rules.specs.Steps.{base, startWith, start, step, ready}
+use Rattle.rules.specs.Runs.{runFrom, answersFrom, run, answers, isAccepted, isFault, taken, someFault}
+use Rattle.rules.specs.Demand3.{isOfRun, allOfRun, Demand3}
+use Rattle.rules.proofs.Tests.{and-true, and-intro, true-false}
+use Rattle.rules.proofs.Demand3.{demand3}
+use Rattle.encoding.specs.Encode.{encodeState}
+use Rattle.encoding.specs.Decode.{encodes, stateOf}
+use Rattle.encoding.proofs.StateLaws.{encodeState-encodes, encodeState-bytes, stateOf-encodeState}
+use Rattle.fits.proofs.Fitting.{Fitting, step-fits, start-call-fits, run-fits}
+use Rattle.host.specs.Calls.{fitsState, startNumber, startBytes, stepNumber, stepBytes, setAfter, readyNumber, readySet}
+use Rattle.host.specs.ByteRuns.{stepsBytes, stepsNumbers, pointBytes, answersBytes, Follows, isFaultNumber, isTaken, isRunNumber, allRunNumbers, takenNumbers, someFaultNumber, Demand3Bytes, AtEveryPointBytes}
+use Rattle.host.proofs.Encoded.{stepBytes-encode}
+
+-- THE CALLS IN TURN
+
+module _ (t : List ℕ) (y : Bytes t) where
+  module _ (s : State) (f : Fitting s) where
+    -- The bytes of a state that fits, and a step over them.
+    whole-of : encodes (encodeState s) ≡ true
+    whole-of = encodeState-encodes s (f .sized) (f .fits)
+
+    back-to : stateOf (encodeState s) ≡ s
+    back-to = stateOf-encodeState s (f .sized) (f .fits)
+
+    step-bytes : (i : ℕ) → stepBytes t (encodeState s) i ≡ encodeState (step base t s i .state)
+    step-bytes i = rw back-to at (stepBytes-encode t (encodeState s) i (encodeState-bytes s (f .sized) (f .fits)) whole-of)
+
+    step-number : (i : ℕ) → stepNumber t (encodeState s) i ≡ answerNumber (step base t s i .answer)
+    unfolding stepNumber
+    step-number i = rw (whole-of, back-to)
+
+  -- A step for each number.
+  steps-bytes : (order : List ℕ) (s : State) → Fitting s → stepsBytes t (encodeState s) order ≡ encodeState (runFrom base t s order)
+  unfolding stepsBytes runFrom
+  steps-bytes [] s f = refl
+  steps-bytes (i ∷ order) s f = ap (λ b. stepsBytes t b order) (step-bytes s f i) ∙ steps-bytes order (step base t s i .state) (step-fits t y s f i)
+
+  steps-numbers : (order : List ℕ) (s : State) → Fitting s → stepsNumbers t (encodeState s) order ≡ map answerNumber (answersFrom base t s order)
+  unfolding stepsNumbers answersFrom
+  steps-numbers [] s f = refl
+  steps-numbers (i ∷ order) s f =
+      ap (λ n. n ∷ stepsNumbers t (stepBytes t (encodeState s) i) order) (step-number s f i)
+      ∙ ap (λ l. answerNumber (step base t s i .answer) ∷ l)
+      (ap (λ b. stepsNumbers t b order) (step-bytes s f i) ∙ steps-numbers order (step base t s i .state) (step-fits t y s f i))
+
+  -- Whatever the table and the list: a buffer of a state's length.
+  pub follows : (b : List ℕ) → length b ≡ 13776 → (order : List ℕ) → Follows t b order
+  unfolding pointBytes answersBytes run answers startBytes startNumber fitsState
+  follows b l order =
+      let f = run-fits t y order in
+      let q = eq-eqb (length b) 13776 l in
+      let z : pointBytes t b order ≡ encodeState (run base t order) = rw q (steps-bytes order (start base t .state) (start-call-fits t)) in
+      record {
+        began = rw q;
+        bytes = z;
+        numbers = rw q (steps-numbers order (start base t .state) (start-call-fits t));
+        whole = ap encodes z ∙ whole-of (run base t order) f;
+        state = ap stateOf z ∙ back-to (run base t order) f;
+      }
+
+-- NUMBERS
+
+-- 14 to 16 are neither 0 nor a fault.
+between : (n : ℕ) → leb 14 n && leb n 16 ≡ true → (eqb n 0 ≡ false) × (leb 101 n ≡ false)
+between n e =
+    let q = and-true (leb 14 n) _ e in
+    let low = leb-true 14 n (q .0) in
+    let high = leb-true n 16 (q .1) in
+    (ne-eqb n 0 (λ z. omega arith), lt-leb 101 n (omega arith))
+
+-- The number of an answer of a run tells whether the step was accepted, and whether it met a fault.
+fault-number : (a : Answer) → isOfRun a ≡ true → isFaultNumber (answerNumber a) ≡ isFault a
+unfolding isFaultNumber
+fault-number (Accepted Running) e = refl
+fault-number (Accepted AtBarrier) e = refl
+fault-number (Accepted Ended) e = refl
+fault-number (Accepted (Faulted F1)) e = refl
+fault-number (Accepted (Faulted F2)) e = refl
+fault-number (Accepted (Faulted F3)) e = refl
+fault-number (Accepted (Faulted F4)) e = refl
+fault-number (Accepted (Faulted F5)) e = refl
+fault-number (Accepted (Faulted F6)) e = refl
+fault-number (Accepted (Faulted F7)) e = refl
+fault-number (Refused n) e = rw (between n e .1)
+
+taken-number : (a : Answer) → isOfRun a ≡ true → isTaken (answerNumber a) ≡ isAccepted a
+unfolding isTaken isFaultNumber
+taken-number (Accepted Running) e = refl
+taken-number (Accepted AtBarrier) e = refl
+taken-number (Accepted Ended) e = refl
+taken-number (Accepted (Faulted F1)) e = refl
+taken-number (Accepted (Faulted F2)) e = refl
+taken-number (Accepted (Faulted F3)) e = refl
+taken-number (Accepted (Faulted F4)) e = refl
+taken-number (Accepted (Faulted F5)) e = refl
+taken-number (Accepted (Faulted F6)) e = refl
+taken-number (Accepted (Faulted F7)) e = refl
+taken-number (Refused n) e = rw (between n e .0, between n e .1)
+
+accepted-number : (a : Answer) → isAccepted a ≡ true → isTaken (answerNumber a) ≡ true
+accepted-number (Accepted status) e = taken-number (Accepted status) refl
+accepted-number (Refused n) e = absurd (true-false false e refl)
+
+run-number : (a : Answer) → isOfRun a ≡ true → isRunNumber (answerNumber a) ≡ true
+unfolding isRunNumber
+run-number (Accepted status) e = rw (taken-number (Accepted status) refl)
+run-number (Refused n) e = rw (taken-number (Refused n) e) e
+
+-- So do the numbers of all answers.
+all-numbers : (l : List Answer) → allOfRun l ≡ true → allRunNumbers (map answerNumber l) ≡ true
+unfolding allOfRun allRunNumbers
+all-numbers [] e = refl
+all-numbers (a ∷ l) e = let q = and-true (isOfRun a) _ e in and-intro _ _ (run-number a (q .0)) (all-numbers l (q .1))
+
+taken-numbers : (l : List Answer) → allOfRun l ≡ true → takenNumbers (map answerNumber l) ≡ taken l
+unfolding allOfRun takenNumbers taken
+taken-numbers [] e = refl
+taken-numbers (a ∷ l) e = let q = and-true (isOfRun a) _ e in rw (taken-number a (q .0), taken-numbers l (q .1))
+
+fault-numbers : (l : List Answer) → allOfRun l ≡ true → someFaultNumber (map answerNumber l) ≡ someFault l
+unfolding allOfRun someFaultNumber someFault
+fault-numbers [] e = refl
+fault-numbers (a ∷ l) e = let q = and-true (isOfRun a) _ e in rw (fault-number a (q .0), fault-numbers l (q .1))
+
+-- DEMAND 3
+
+module _ (t : List ℕ) (y : Bytes t) (ok : numberOf workLimit t ≡ 0) (b : List ℕ) (l : length b ≡ 13776) where
+  -- What is said of the rules' run is said of the bytes.
+  module _ (order : List ℕ) where
+    at : Follows t b order
+    at = follows t y b l order
+
+    demand : Demand3 base t order
+    demand = demand3 base t (omega arith) ok order
+
+    begins : startNumber t b ≡ 0
+    unfolding start startWith
+    begins = at .began ∙ rw ok
+
+    counts : takenNumbers (answersBytes t b order) ≡ taken (answers base t order)
+    counts = rw (at .numbers) (taken-numbers (answers base t order) (demand .answered))
+
+    faults : someFaultNumber (answersBytes t b order) ≡ someFault (answers base t order)
+    faults = rw (at .numbers) (fault-numbers (answers base t order) (demand .answered))
+
+    ready-given : readyNumber t (pointBytes t b order) ≡ 0
+    unfolding readyNumber
+    ready-given = rw (at .whole, at .state) (demand .fit)
+
+    ready-there : (lent : ℕ) → readySet t (pointBytes t b order) lent ≡ ready base t (run base t order) .set
+    unfolding readySet setAfter
+    ready-there lent = rw (at .whole, at .state, demand .fit)
+
+    step-there : (i : ℕ) → stepNumber t (pointBytes t b order) i ≡ answerNumber (step base t (run base t order) i .answer)
+    unfolding stepNumber
+    step-there i = rw (at .whole, at .state)
+
+  -- Demand 3, for an accepted table, a buffer of a state's length and any list.
+  pub demand3-bytes : (order : List ℕ) → Demand3Bytes t b order
+  demand3-bytes order =
+      let d = demand order in
+      let s = at order .state in
+      record {
+        started = begins order;
+        answered = rw (at order .numbers) (all-numbers (answers base t order) (d .answered));
+        counted = rw (s, counts order) (d .counted);
+        fit = ready-given order;
+        alive = λ lent e. rw s (d .alive (sym (ready-there order lent) ∙ e));
+        over = λ lent e. ready-there order lent ∙ d .over (rw s at e);
+        steps = λ lent i e. rw (step-there order i) (accepted-number (step base t (run base t order) i .answer) (d .steps i (rw (ready-there order lent) at e)));
+        bounded = rw (counts order) (d .bounded);
+        whole = λ e f. rw (counts order) (d .whole (rw s at e) (sym (faults order) ∙ f));
+        less = λ e. rw (counts order) (d .less (sym (faults order) ∙ e));
+        stable = λ before after q c p h k. rw s (d .stable before after q c p (rw (at before .state) at h) (rw (at before .state) at k));
+      }
+
+  -- At every point of the list.
+  pub at-every-point-bytes : (order : List ℕ) → AtEveryPointBytes t b order
+  at-every-point-bytes order = record { holds = λ before after e. demand3-bytes before }
