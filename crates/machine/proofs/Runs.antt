@@ -3,8 +3,10 @@ use Prim.Native.Nat.{ℕ, _≤_, _<_}
 use native.Mathlib.Omega.{arith}
 use mathlib.Core.Path.{_≡_, refl, sym, ap, _∙_}
 use mathlib.Core.List.{List}
+use mathlib.Core.Bool.{cond}
+use lib.Dec.{eqb}
 use lib.ListN.{length, take}
-use borrow.Author.Tests.{ne-eqb, le-leb, lt-leb}
+use borrow.Author.Tests.{eq-eqb, ne-eqb, le-leb, lt-leb}
 use Rattle.program.specs.Bodies.{programOf}
 use Rattle.program.specs.Count.{workOf}
 use Rattle.program.specs.Table.{workLimit, numberOf}
@@ -13,10 +15,16 @@ use Rattle.rules.specs.declared.answer.Completion.the-variants as completion
 use Rattle.rules.specs.State.{zeroState}
 use Rattle.rules.specs.Steps.{base, startState}
 use Rattle.rules.specs.Demand3.{AtEveryPoint}
-use Rattle.rules.specs.Runs.{runFrom}
+use Rattle.rules.specs.Runs.{runFrom, run}
 use Rattle.rules.proofs.Demand3.{good-start, good-run, run-start, answers-start, at-every-point}
 use Rattle.guards.specs.Known.{Known}
-use Rattle.turns.specs.Turns.{Followable, answeredFrom}
+use Rattle.turns.specs.Turns.{Followable, answeredFrom, Follows}
+use Rattle.program.proofs.Basic.{Bytes}
+use Rattle.encoding.specs.declared.Decoded.{Decoded}
+use Rattle.encoding.specs.Encode.{encodeState}
+use Rattle.encoding.specs.Decode.{decodedOf}
+use Rattle.fits.proofs.Fitting.{run-encodes, run-back}
+use Rattle.fields.proofs.Start.{lent-start}
 use Rattle.machine.specs.Ran.{ranOf, answered, Runs}
 
 module _ (t order before : List ℕ) where
@@ -57,3 +65,19 @@ module _ (t order before : List ℕ) where
           buffer = rw (z, m, f, q, answers-start base t (omega arith) z order);
           demand = demanded;
         }
+
+    -- A run in bytes that are not lent: what they are decoded to is its state.
+    decoded : {d : Decoded} {c : List ℕ} → Bytes t → d ≡ decodedOf c → c ≡ encodeState (runFrom base t startState order) → d .state ≡ runFrom base t startState order
+    unfolding decodedOf
+    decoded {c = c} y e q =
+        let r = run-start base t (omega arith) z order in
+        let x : c ≡ encodeState (run base t order) = q ∙ ap encodeState (sym r) in
+        rw (e, x, run-encodes t y order) (run-back t y order ∙ r)
+
+    pub runs-followed : {starts begun filled after : List ℕ} {work : ℕ} {s : State} {d : Decoded} (zeros : List ℕ) → Bytes t → Known t starts → work ≡ workOf (programOf t) → work ≤ workLimit
+        → length order ≤ length before → s ≡ startState → length zeros ≡ 13776 → begun ≡ cond (eqb (length zeros) 13776) (encodeState s) zeros
+        → Follows t starts work order before filled begun after → d ≡ decodedOf after → Runs t order before filled (record { completion = completion.Done; state = d .state })
+    runs-followed {begun = begun} zeros y known counted small room e long f m g =
+        let h : begun ≡ encodeState startState = f ∙ rw (eq-eqb (length zeros) 13776 long, e) in
+        let w = m .follows startState (lent-start h) (from-start known counted small room refl) in
+        runs-done room refl (decoded y g (w .0 .bytes)) (w .1)

@@ -4,6 +4,8 @@ ghost use Rattle.rules.specs.Steps.{base, start, step, ready, registrations, re
 ghost use Rattle.machine.specs.Ran.{answerBy, Runs};
 use advance::follow;
 use clocks::sheet::sheet_of;
+use encoding::decode;
+use encoding::encode;
 use guards::look::ready_set;
 use parts::empty::start_state;
 use parts::empty::zero_state;
@@ -134,7 +136,11 @@ pub fn run(table: &[u8], order: &[u8], answers: &mut [u8]) -> Ran
     }
     let layout = found.layout;
     let starts = layout.starts;
-    let state = follow(table, &starts, found.work, start_state(), order, answers);
+    let mut bytes = [0u8; 13776];
+    encode(start_state(), &mut bytes);
+    turns::follow::follow(table, &starts, found.work, order, answers, &mut bytes);
+    let done = decode(&bytes);
+    let state = done.state;
     Ran {
         completion: Completion::Done,
         state,

@@ -22,9 +22,9 @@ use values::cells::add;
 use values::cells::fetch;
 use values::cells::store;
 use values::offer::offer;
+use values::put::put;
 use values::read::read;
 use values::reset::reset;
-use values::put::put;
 use waits::waiting::waits_at;
 
 pub mod follow; // follow.rt: an order of turns
