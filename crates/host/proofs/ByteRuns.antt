@@ -25,7 +25,7 @@ use Rattle.encoding.specs.Decode.{encodes, stateOf}
 use Rattle.encoding.proofs.StateLaws.{encodeState-encodes, encodeState-bytes, stateOf-encodeState}
 use Rattle.fits.proofs.Fitting.{Fitting, step-fits, start-call-fits, run-fits}
 use Rattle.host.specs.Calls.{fitsState, startNumber, startBytes, stepNumber, stepBytes, setAfter, readyNumber, readySet}
-use Rattle.host.specs.ByteRuns.{stepsBytes, stepsNumbers, pointBytes, answersBytes, Follows, isFaultNumber, isTaken, isRunNumber, allRunNumbers, takenNumbers, someFaultNumber, Demand3Bytes, AtEveryPointBytes}
+use Rattle.host.specs.ByteRuns.{stepsBytes, stepsNumbers, pointBytes, answersBytes, FollowsRun, isFaultNumber, isTaken, isRunNumber, allRunNumbers, takenNumbers, someFaultNumber, Demand3Bytes, AtEveryPointBytes}
 use Rattle.host.proofs.Encoded.{stepBytes-encode}
 
 -- THE CALLS IN TURN
@@ -61,7 +61,7 @@ module _ (t : List ℕ) (y : Bytes t) where
       (ap (λ b. stepsNumbers t b order) (step-bytes s f i) ∙ steps-numbers order (step base t s i .state) (step-fits t y s f i))
 
   -- Whatever the table and the list: a buffer of a state's length.
-  pub follows : (b : List ℕ) → length b ≡ 13776 → (order : List ℕ) → Follows t b order
+  pub follows : (b : List ℕ) → length b ≡ 13776 → (order : List ℕ) → FollowsRun t b order
   unfolding pointBytes answersBytes run answers startBytes startNumber fitsState
   follows b l order =
       let f = run-fits t y order in
@@ -144,7 +144,7 @@ fault-numbers (a ∷ l) e = let q = and-true (isOfRun a) _ e in rw (fault-number
 module _ (t : List ℕ) (y : Bytes t) (ok : numberOf workLimit t ≡ 0) (b : List ℕ) (l : length b ≡ 13776) where
   -- What is said of the rules' run is said of the bytes.
   module _ (order : List ℕ) where
-    at : Follows t b order
+    at : FollowsRun t b order
     at = follows t y b l order
 
     demand : Demand3 base t order

@@ -36,7 +36,7 @@ unfoldable pub answersBytes : List ℕ → List ℕ → List ℕ → List ℕ
 answersBytes t b order = stepsNumbers t (startBytes t b) order
 
 -- The buffer holds the state of the run, and each call answered the number of the run's answer.
-pub record Follows (t b order : List ℕ) : Type 0 where
+pub record FollowsRun (t b order : List ℕ) : Type 0 where
   pub began : startNumber t b ≡ answerNumber (start base t .answer)
   pub bytes : pointBytes t b order ≡ encodeState (run base t order)
   pub numbers : answersBytes t b order ≡ map answerNumber (answers base t order)
