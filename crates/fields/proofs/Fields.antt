@@ -449,6 +449,11 @@ spawner-put a v h = let q : v % 256 ≡ v = omega arith in rw q
 
 -- COUNTS
 
+-- The counts are single bytes: they fit by their type.
+fine-counts : {s : State} (a c n : ℕ) → Fine s
+    → Fine (record { cells = s .cells; acts = s .acts; accs = s .accs; steps = s .steps; activities = a; clocks = c; accumulators = n })
+fine-counts a c n w = record { acts64 = w .acts64; accs16 = w .accs16; cells16 = w .cells16; steps = w .steps; cells = w .cells; values = w .values; each = w .each }
+
 pub activities-there : {b : List ℕ} {s : State} {r : ℕ} → Lent b s → Gets 1 b 1 r → r ≡ s .activities
 unfolding encodeState bytesOf
 activities-there {b} {s} l g = g .gets (lent-length l) (omega arith) ∙ rw (l .bytes) (single (s .activities))
@@ -459,16 +464,7 @@ activities-put {s = s} {n = n} l p h =
     let q : n % 256 ≡ n = omega arith in
     record {
       bytes = p .puts (lent-length l) (omega arith) ∙ rw (l .bytes, q);
-      fine =
-          record {
-            acts64 = l .fine .acts64;
-            accs16 = l .fine .accs16;
-            cells16 = l .fine .cells16;
-            steps = l .fine .steps;
-            cells = l .fine .cells;
-            values = l .fine .values;
-            each = l .fine .each;
-          };
+      fine = fine-counts n (s .clocks) (s .accumulators) (l .fine);
     }
 
 pub clocks-there : {b : List ℕ} {s : State} {r : ℕ} → Lent b s → Gets 1 b 2 r → r ≡ s .clocks
@@ -481,16 +477,7 @@ clocks-put {s = s} {n = n} l p h =
     let q : n % 256 ≡ n = omega arith in
     record {
       bytes = p .puts (lent-length l) (omega arith) ∙ rw (l .bytes, q);
-      fine =
-          record {
-            acts64 = l .fine .acts64;
-            accs16 = l .fine .accs16;
-            cells16 = l .fine .cells16;
-            steps = l .fine .steps;
-            cells = l .fine .cells;
-            values = l .fine .values;
-            each = l .fine .each;
-          };
+      fine = fine-counts (s .activities) n (s .accumulators) (l .fine);
     }
 
 pub accumulators-there : {b : List ℕ} {s : State} {r : ℕ} → Lent b s → Gets 1 b 3 r → r ≡ s .accumulators
@@ -503,16 +490,7 @@ accumulators-put {s = s} {n = n} l p h =
     let q : n % 256 ≡ n = omega arith in
     record {
       bytes = p .puts (lent-length l) (omega arith) ∙ rw (l .bytes, q);
-      fine =
-          record {
-            acts64 = l .fine .acts64;
-            accs16 = l .fine .accs16;
-            cells16 = l .fine .cells16;
-            steps = l .fine .steps;
-            cells = l .fine .cells;
-            values = l .fine .values;
-            each = l .fine .each;
-          };
+      fine = fine-counts (s .activities) (s .clocks) n (l .fine);
     }
 
 -- CELLS

@@ -4,9 +4,7 @@ use native.Mathlib.Omega.{arith}
 use mathlib.Core.Path.{_≡_, refl}
 use mathlib.Core.List.{List}
 use lib.ListN.{getD, set, replicate, getD-replicate}
-use Rattle.rules.specs.declared.state.Activity.{Activity}
-use Rattle.rules.specs.declared.state.State.{State}
-use Rattle.rules.specs.State.{noFrame, noHold, noFrames, noAccumulator, noActivity, absent, zeroState, act}
+use Rattle.rules.specs.State.{noFrame, noHold, noFrames, noAccumulator, noActivity, absent}
 use Rattle.rules.specs.Effects.{withFrames}
 use Rattle.rules.specs.Steps.{startState}
 use Rattle.rules.proofs.Lists.{Stored, new, old, stored}

@@ -1,15 +1,14 @@
 -- Writing in place: within one of the fields that stand one after the other, and of one entry among many.
-use Prim.Native.Nat.{ℕ, zero, suc, _+_, _-_, _*_, _/_, _%_, _^_, _≤_, _<_, suc-le-suc}
+use Prim.Native.Nat.{ℕ, zero, suc, _+_, _-_, _*_, _%_, _≤_, _<_, suc-le-suc}
 use native.Mathlib.Omega.{arith}
 use native.Mathlib.Numerals.{add-one}
 use native.Mathlib.Nat.{not-suc-le-zero, le-of-suc-le-suc, mul-suc, mul-zero, add-comm, zero-add, zero-lt-suc}
-use mathlib.Core.List.{List, [], _∷_, _++_, append-nil, append-assoc}
+use mathlib.Core.List.{List, [], _∷_, _++_, append-assoc}
 use mathlib.Core.Path.{_≡_, refl, sym, ap, _∙_}
-use lib.ListN.{length, getD, take, drop, set, replicate, length-append, length-drop}
+use lib.ListN.{length, getD, take, drop, set, length-append, length-drop}
 use lib.Seq.{drop-at, set-split, drop-drop, drop-cons, take-append-le, drop-append-le, take-append-add, drop-append-add}
 use borrow.Rule.Slice.PartMut.{putMid}
 use Rattle.encoding.specs.Bytes.{bytesOf, numberOf, part, encodeEach}
-use Rattle.encoding.proofs.NumberLaws.{bytesOf-length}
 use Rattle.encoding.proofs.FieldLaws.{sized}
 
 -- within the first of two

@@ -1,21 +1,17 @@
 -- The step of one activity: what is known before it, and what is promised of it; and orders of steps.
 use Prim.Native.Nat.{ℕ, _≤_, _<_}
 use mathlib.Core.Path.{_≡_}
-use mathlib.Core.List.{List, map, _++_}
+use mathlib.Core.List.{List}
 use mathlib.Core.Bool.{Bool, true, false}
-use lib.ListN.{length, take, drop}
 use Rattle.program.specs.Bodies.{Program, programOf}
 use Rattle.program.specs.Count.{workOf}
-use Rattle.program.specs.Table.{workLimit, numberOf}
+use Rattle.program.specs.Table.{workLimit}
 use Rattle.program.specs.declared.command.Command.{Command}
 use Rattle.rules.specs.declared.state.Accumulator.{Accumulator}
 use Rattle.rules.specs.declared.state.Activity.{Activity}
 use Rattle.rules.specs.declared.state.State.{State}
 use Rattle.rules.specs.State.{answerNumber, act}
-use Rattle.rules.specs.WellFormed.{wellFormed}
 use Rattle.rules.specs.Steps.{base, at, fault, effect, refusal, exceeds, advance}
-use Rattle.rules.specs.Runs.{runFrom, answersFrom}
-use Rattle.guards.specs.Known.{Known}
 use Rattle.guards.specs.Met.{Reads}
 use Rattle.guards.specs.Views.{Fit, Viewed}
 use Rattle.parts.specs.Shared.{whole}

@@ -2,10 +2,9 @@
 use Prim.Native.Nat.{ℕ, _+_, _≤_, _<_}
 use native.Mathlib.Omega.{arith}
 use native.Mathlib.Nat.{add-zero}
-use mathlib.Core.Path.{_≡_, refl, sym, ap, _∙_, subst}
+use mathlib.Core.Path.{_≡_, refl, sym, ap, _∙_}
 use mathlib.Core.List.{List, map}
 use mathlib.Core.Bool.{Bool, true, false, cond, _&&_}
-use mathlib.Core.Logic.{_⊎_, inl, inr}
 use lib.Dec.{leb, eqb}
 use borrow.Author.Tests.{eqb-false}
 use Rattle.program.specs.Command.{rows, rowAt, rowOf, isEnd, width, held}
@@ -17,15 +16,15 @@ use Rattle.rules.specs.declared.state.Status.the-variants.{Running, AtBarrier}
 use Rattle.rules.specs.declared.state.Hold.{Hold}
 use Rattle.rules.specs.declared.state.Activity.{Activity}
 use Rattle.rules.specs.declared.state.State.{State}
-use Rattle.rules.specs.State.{act, noHold, hold, isAtBarrier}
+use Rattle.rules.specs.State.{act, hold, isAtBarrier}
 use Rattle.rules.specs.Clocks.{isHeld, quiesced, quiesce, revived, pass}
 use Rattle.rules.specs.Faults.{faultFor}
 use Rattle.rules.specs.Effects.{withHolds, past, nextOf, effectOf}
 use Rattle.rules.specs.Steps.{base, effect, exceeds}
-use Rattle.rules.proofs.Tests.{true-false, decide}
+use Rattle.rules.proofs.Tests.{true-false}
 use Rattle.rules.proofs.Search.{someBelow-none}
-use Rattle.guards.specs.Exceeding.{isLast, someLast, overfull, overtakes, exceedsAt}
-use Rattle.fields.specs.Lent.{FineActivity, Lent, ReadsAct, WritesAct, withAct, withStatus, withSteps}
+use Rattle.guards.specs.Exceeding.{someLast, overfull, overtakes, exceedsAt}
+use Rattle.fields.specs.Lent.{FineActivity, Lent, WritesAct, withAct, withStatus}
 use Rattle.moves.specs.Moves.{Standing, Turned, Counts, GoesOn}
 use Rattle.meetings.specs.Mapped.{Maps, Any, Passable}
 use Rattle.moves.proofs.Withs.{act-with, with-with, steps-with}

@@ -1,6 +1,6 @@
 -- An activity that stops.
-use Prim.Native.Nat.{ℕ, _+_}
-use mathlib.Core.Path.{_≡_, refl, sym, ap, _∙_}
+use Prim.Native.Nat.{ℕ}
+use mathlib.Core.Path.{_≡_}
 use mathlib.Core.List.{List}
 use mathlib.Core.Bool.{false}
 use lib.Dec.{leb}
@@ -11,12 +11,12 @@ use Rattle.rules.specs.declared.state.Status.{Status}
 use Rattle.rules.specs.declared.state.Status.the-variants.{Faulted}
 use Rattle.rules.specs.declared.state.Activity.{Activity}
 use Rattle.rules.specs.declared.state.State.{State}
-use Rattle.rules.specs.State.{faultNumber, statusAnswer, act}
+use Rattle.rules.specs.State.{faultNumber, statusAnswer}
 use Rattle.rules.specs.Effects.{stopped}
 use Rattle.rules.specs.Steps.{fault}
-use Rattle.fields.specs.Lent.{Lent, Reads, WritesAct, withAct, withStatus, withDepth, cleared}
+use Rattle.fields.specs.Lent.{Lent, WritesAct, withAct, withStatus, withDepth, cleared}
 use Rattle.moves.specs.Moves.{Standing, Turned, Counts}
-use Rattle.moves.proofs.Withs.{then, steps-with}
+use Rattle.moves.proofs.Withs.{then}
 use Rattle.moves.proofs.Standings.{few, steps-room, done-failed}
 
 pub stops : {b b₁ b₂ b₃ : List ℕ} {i : ℕ} (st : Status) → WritesAct (λ (a : Activity). withStatus a st) b b₁ i → WritesAct (λ (a : Activity). withDepth a 0) b₁ b₂ i → WritesAct cleared b₂ b₃ i

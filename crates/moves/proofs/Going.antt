@@ -1,15 +1,13 @@
 -- A step is counted, and the top body goes on.
-use Prim.Native.Nat.{ℕ, _+_, _-_, _%_, _^_, _≤_, _<_}
+use Prim.Native.Nat.{ℕ, _+_, _-_, _%_, _^_, _<_}
 use native.Mathlib.Omega.{arith}
-use mathlib.Core.Path.{_≡_, refl, sym, ap, _∙_, subst}
+use mathlib.Core.Path.{_≡_, refl, _∙_}
 use mathlib.Core.List.{List}
 use Rattle.rules.specs.declared.state.Activity.{Activity}
 use Rattle.rules.specs.declared.state.State.{State}
 use Rattle.rules.specs.State.{act, frame, top}
-use Rattle.rules.specs.Effects.{withTop}
-use Rattle.fields.specs.Lent.{Lent, Reads, Writes, ReadsAct, WritesAct, withAct, withSteps, withFrame, onward}
+use Rattle.fields.specs.Lent.{Reads, Writes, ReadsAct, WritesAct, withAct, withSteps, withFrame, onward}
 use Rattle.moves.specs.Moves.{Counts, GoesOn}
-use Rattle.moves.proofs.Withs.{steps-with}
 
 pub count-on : {b c : List ℕ} {n m : ℕ} → Reads (λ (s : State). s .steps) b n → m ≡ (n + 1) % 2 ^ 16 → Writes (λ (s : State). withSteps s m) b c → Counts b c 0
 count-on {b} {c} {n} {m} f q w =

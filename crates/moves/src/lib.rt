@@ -58,6 +58,7 @@ pub fn stop(state: &mut [u8], i: usize, status: Status)
     clear_own(state, i);
 }
 
+// A fault: the activity stops, and its step is counted.
 pub fn fail(work: u64, state: &mut [u8], i: usize, f: Fault) -> u8
     ensures { λ r. ⌜ Fails f (now (state .entry)) (now (state .exit)) work i r ⌝ }
 {

@@ -10,11 +10,12 @@ use lib.Seq.{take-all, drop-cons}
 use borrow.Author.Tests.{eqb-true, le-leb, lt-leb, lt-ltb, le-ltb}
 use Rattle.program.specs.Command.{Operand, clockName, accumulatorName, operatorCode, mask, bodyNumber, runCount, commandCount, cellNumber, valueByte, inside, rows, rowAt, commandOf}
 use Rattle.program.specs.Inner.Coding.{kindCode, ranges, withinCode, coded}
-use Rattle.program.specs.Reading.{allInside, read}
+use Rattle.program.specs.Reading.{allInside, read, bare}
 use Rattle.program.specs.declared.command.Command.{Command}
+use Rattle.program.specs.declared.command.Command.the-variants.{End}
 use Rattle.program.specs.declared.reading.Reading.{Reading}
 use Rattle.program.specs.declared.reading.Reading.the-variants.{Whole, Unknown, Cut, Outside}
-use Rattle.program.proofs.Basic.{Bytes, true-false, and-true}
+use Rattle.program.proofs.Basic.{Bytes, and-true}
 use Rattle.program.proofs.RowLaws.{plain, plain-tail}
 
 -- Below a bound is from 0 to one less.
@@ -169,26 +170,29 @@ whole-of false true z d m e = let q : _≡_ {A = ℕ} 0 1 = cc in absurd (omega 
 whole-of false false false d m e = let q : _≡_ {A = ℕ} 0 1 = cc in absurd (omega arith)
 whole-of false false true d m e = (refl, cc)
 
--- It has one of the seventeen bytes, and is the command of that byte.
-whole-command : (op : ℕ) (s : List ℕ) {c : Command} {n : ℕ} → read (op ∷ s) ≡ Whole c n → (leb (length rows) op ≡ false) × (commandOf op s ≡ c)
-unfolding read
-whole-command op s e =
+-- Its command is that of its byte and of what stands behind it.
+pub whole-bare : (s : List ℕ) {c : Command} {n : ℕ} → read s ≡ Whole c n → bare s ≡ c
+unfolding read bare
+whole-bare [] e = let q : _≡_ {A = ℕ} 0 1 = cc in absurd (omega arith)
+whole-bare (op ∷ s) e =
     let kinds = rowAt op .operands in
-    whole-of (leb (length rows) op) (ltb (length s) (length kinds)) (allInside kinds s) (commandOf op s) (length kinds + 1) e
+    let w = whole-of (leb (length rows) op) (ltb (length s) (length kinds)) (allInside kinds s) (commandOf op s) (length kinds + 1) e in
+    rw (w .0) (w .1)
 
-module _ (code : List ℕ) (offset : ℕ) {c : Command} {n : ℕ} (whole : read (drop offset code) ≡ Whole c n) where
-  -- It does not stand past the end.
-  pub whole-inside : length code ≤ offset → ⊥
-  unfolding read
-  whole-inside h = let e = rw (drop-of-length-le code h) at whole in let q : _≡_ {A = ℕ} 0 1 = cc in omega arith
+module _ (code : List ℕ) (offset : ℕ) where
+  -- Nothing stands past the end.
+  pub bare-none : length code ≤ offset → End ≡ bare (drop offset code)
+  unfolding bare
+  bare-none h = rw (drop-of-length-le code h)
 
   module _ (more : offset < length code) where
-    split : read (getD code offset 0 ∷ drop (suc offset) code) ≡ Whole c n
-    split = rw (drop-cons code offset 0 more) at whole
+    split : drop offset code ≡ getD code offset 0 ∷ drop (suc offset) code
+    split = drop-cons code offset 0 more
 
-    pub whole-known : 17 ≤ getD code offset 0 → ⊥
-    unfolding rows
-    whole-known h = true-false _ (le-leb 17 (getD code offset 0) h) (whole-command (getD code offset 0) (drop (suc offset) code) split .0)
+    pub bare-unknown : 17 ≤ getD code offset 0 → End ≡ bare (drop offset code)
+    unfolding bare rows
+    bare-unknown h = rw (split, le-leb 17 (getD code offset 0) h)
 
-    pub whole-is : commandOf (getD code offset 0) (drop (suc offset) code) ≡ c
-    whole-is = whole-command (getD code offset 0) (drop (suc offset) code) split .1
+    pub bare-known : {op : ℕ} {c : Command} → op ≡ getD code offset 0 → op < 17 → c ≡ commandOf op (drop (suc offset) code) → c ≡ bare (drop offset code)
+    unfolding bare rows
+    bare-known {op} e h q = rw (split, sym e, lt-leb 17 op h) q

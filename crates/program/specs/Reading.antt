@@ -6,6 +6,7 @@ use lib.ListN.{length, drop}
 use lib.Dec.{ltb, leb}
 use Rattle.program.specs.Command.{Operand, inside, rows, rowAt, commandOf}
 use Rattle.program.specs.declared.command.Command.{Command}
+use Rattle.program.specs.declared.command.Command.the-variants.{End}
 use Rattle.program.specs.declared.reading.Reading.{Reading}
 use Rattle.program.specs.declared.reading.Reading.the-variants.{Whole, Unknown, Cut, Outside}
 
@@ -24,6 +25,11 @@ read (op ∷ s) =
     cond (leb (length rows) op) Unknown
     (cond (ltb (length s) (length kinds)) Cut
     (cond (allInside kinds s) (Whole (commandOf op s) (length kinds + 1)) Outside))
+
+-- The command of a byte and of what stands behind it, with nothing tried: that of a reading which is whole. END where there is no byte or no such command.
+unfoldable pub bare : List ℕ → Command
+bare [] = End
+bare (op ∷ s) = cond (leb (length rows) op) End (commandOf op s)
 
 -- A reading, and after a whole command what `rest` reads: `rest` stands past the command's first byte and is told how many more to skip.
 abbrev pub andOn : Reading → (ℕ → List Reading) → List Reading

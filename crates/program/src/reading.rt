@@ -4,8 +4,8 @@ ghost use mathlib.Core.List.{[]};
 ghost use Prim.Native.Nat.{_<_, _≤_};
 ghost use lib.ListN.{length, getD, drop};
 ghost use Rattle.program.specs.Command.{word, rowAt};
-ghost use Rattle.program.specs.Inner.Coding.{ranges, withinCode, Made, IsWhole};
-ghost use Rattle.program.specs.Reading.{read, allInside};
+ghost use Rattle.program.specs.Inner.Coding.{ranges, withinCode, Made};
+ghost use Rattle.program.specs.Reading.{read, bare, allInside};
 use super::command::Command;
 use super::command::wide;
 use super::rows::column;
@@ -26,7 +26,7 @@ pub enum Reading {
 const PUT: usize = 12;
 
 // A byte of a slice, 0 past its end.
-fn byte_at(code: &[u8], i: usize) -> u8
+pub fn byte_at(code: &[u8], i: usize) -> u8
     ensures { λ r. ⌜ r ≡ getD (now (code .entry)) i 0 ⌝ }
 {
     if i < code.len() { code[i] } else { 0 }
@@ -173,9 +173,9 @@ pub fn fetch(code: &[u8], offset: usize) -> Reading
     }
 }
 
-// The command at an offset where a whole one is known to stand: nothing is tested again.
+// The command at an offset, with nothing tried: for where a whole one is known to stand.
 pub fn known(code: &[u8], offset: usize) -> Command
-    ensures { λ r. ⌜ IsWhole (read (drop offset (now (code .entry)))) r ⌝ }
+    ensures { λ r. ⌜ r ≡ bare (drop offset (now (code .entry))) ⌝ }
 {
     if code.len() <= offset {
         return Command::End;

@@ -1,7 +1,7 @@
 -- An order followed in the lent bytes: the loop's invariant.
 use Prim.Native.Nat.{ℕ, _+_, _≤_, _<_}
 use native.Mathlib.Omega.{arith}
-use mathlib.Core.Path.{_≡_, refl, sym, ap, _∙_, subst}
+use mathlib.Core.Path.{_≡_, refl, _∙_, subst}
 use mathlib.Core.List.{List}
 use lib.ListN.{length, take, getD, set, length-set}
 use Rattle.program.specs.Bodies.{programOf}

@@ -1,9 +1,9 @@
 -- A turn: numbers 14 to 16, and the command that the activity stands on.
 use Prim.Native.Nat.{ℕ, _-_, _≤_, _<_}
 use native.Mathlib.Omega.{arith}
-use mathlib.Core.Path.{_≡_, refl, sym, ap, _∙_, subst}
+use mathlib.Core.Path.{_≡_, sym, ap, _∙_, subst}
 use mathlib.Core.List.{List}
-use mathlib.Core.Bool.{Bool, true, false}
+use mathlib.Core.Bool.{true, false}
 use borrow.Author.Tests.{lt-ltb, le-ltb, ne-eqb}
 use Rattle.program.specs.Bodies.{Program, programOf}
 use Rattle.program.specs.Count.{workOf}
@@ -23,7 +23,7 @@ use Rattle.rules.proofs.Turn.{turn-back}
 use Rattle.rules.proofs.WellFormedFacts.{Facts, ActivityFacts, facts}
 use Rattle.guards.specs.Known.{Known}
 use Rattle.fields.specs.Lent.{Lent, Reads, ReadsAct}
-use Rattle.moves.specs.Moves.{Standing, Turned, TurnsIn}
+use Rattle.moves.specs.Moves.{Turned, TurnsIn}
 use Rattle.moves.proofs.Standings.{standing}
 
 -- A turn that is turned down.

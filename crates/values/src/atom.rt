@@ -1,7 +1,5 @@
 // ATOM.
-ghost use mathlib.Core.Path.{_≡_};
 ghost use Prim.Native.Nat.{_+_};
-ghost use lib.ListN.{getD};
 ghost use Rattle.program.specs.declared.command.Command.the-variants.{Atom};
 ghost use Rattle.moves.specs.Moves.{TurnsIn};
 ghost use Rattle.values.specs.Touched.{TouchesBy, TouchesAll, TouchesIn};
@@ -13,19 +11,13 @@ use fields::bytes::wide;
 use fields::frames::frame_at;
 use moves::go_on;
 use moves::is_spent;
+use program::reading::byte_at;
 use rules::state::Frame;
 
 // The command bytes of FETCH and STORE.
 const FETCH: u8 = 13;
 
 const STORE: u8 = 14;
-
-// A byte of a slice, 0 past its end.
-fn byte_at(code: &[u8], at: usize) -> u8
-    ensures { λ r. ⌜ r ≡ getD (now (code .entry)) at 0 ⌝ }
-{
-    if at < code.len() { code[at] } else { 0 }
-}
 
 // A command on a cell by its two bytes: FETCH, STORE or ADD.
 fn touch(state: &mut [u8], i: usize, op: u8, operand: u8)

@@ -1,5 +1,4 @@
 -- The length decides, then the table's number, then the room; then the order is followed from the start.
-use mathlib.Core.Path.{_≡_, sym, _∙_}
 use Rattle.machine.proofs.Calls.{number-read, accepted-read, known-read, work-read, work-small}
 use Rattle.host.proofs.Laws.{run-unfit}
 use Rattle.host.proofs.Running.{run-refused, run-short, run-followed}

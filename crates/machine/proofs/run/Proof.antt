@@ -1,9 +1,7 @@
 -- The table's number, too little room, or the order followed from the start in bytes that are decoded at the end.
 use Prim.Native.Nat.{ℕ}
 use native.Mathlib.Omega.{arith}
-use mathlib.Core.Path.{_≡_}
 use lib.ListN.{replicate, length-replicate}
-use Rattle.program.specs.Table.{workLimit, numberOf}
 use Rattle.machine.proofs.Calls.{number-read, accepted-read, known-read, work-read, work-small}
 use Rattle.machine.proofs.Runs.{runs-refused, runs-short, runs-followed}
 use borrow.Author.Needs.{needs}

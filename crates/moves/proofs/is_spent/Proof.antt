@@ -1,6 +1,6 @@
 -- The steps are those of the state.
 use Prim.Native.Nat.{ℕ}
-use mathlib.Core.Path.{_≡_, ap}
+use mathlib.Core.Path.{ap}
 use lib.Dec.{leb}
 use borrow.Author.Needs.{needs}
 use Rattle.moves.proofs.is_spent.Statement.{statement}

@@ -2,15 +2,14 @@
 use Prim.Native.Nat.{ℕ, _≤_, _<_}
 use native.Mathlib.Omega.{arith}
 use mathlib.Core.List.{List}
-use mathlib.Core.Path.{_≡_, sym, ap, _∙_}
+use mathlib.Core.Path.{_≡_, ap, _∙_}
 use mathlib.Core.Bool.{true}
 use lib.ListN.{length, getD, drop}
 use Rattle.program.specs.Command.{width}
 use Rattle.program.specs.Bodies.{programOf}
 use Rattle.program.specs.Reading.{read}
-use Rattle.program.specs.declared.reading.Reading.{Reading}
 use Rattle.program.specs.declared.reading.Reading.the-variants.{Whole}
-use Rattle.program.proofs.RangeLaws.{tail-part}
+use Rattle.program.proofs.RangeLaws.{tail-part, whole-bare}
 use Rattle.program.proofs.LocatedBytes.{length-starts}
 use Rattle.rules.specs.declared.state.Frame.{Frame}
 use Rattle.rules.specs.Tree.{here}
@@ -51,7 +50,8 @@ returns-3 : tie.Need-returns-3
 returns-3 c = λ k on.
     let w = c .before .before .before .before .before .before in
     let s = w .before .before .before .args in
-    c .known .ensures .whole _ _
+    c .known .ensures
+    ∙ whole-bare _
     (ap (λ (u : List ℕ). read (drop (s .f .offset) u)) (tail-part (s .table .now) (getD (s .starts .now) (w .wide .result) 0))
     ∙ read-there (s .table .now) (s .starts .now) (s .f) k on (w .wide .ensures .0))
 

@@ -1,5 +1,5 @@
 -- By the command's byte.
-use mathlib.Core.Path.{_≡_, sym, ap, _∙_}
+use mathlib.Core.Path.{ap}
 use lib.Dec.{eqb}
 use Rattle.program.specs.Command.{opcode}
 use Rattle.program.specs.declared.command.Command.{Command}

@@ -7,8 +7,6 @@ use lib.ListN.{length, getD}
 use lib.Dec.{eqb, leb}
 use Rattle.program.specs.Command.{Operand, clockName, accumulatorName, operatorCode, mask, bodyNumber, runCount, commandCount, cellNumber, valueByte, Row, rowOf, word, commandOf}
 use Rattle.program.specs.declared.command.Command.{Command}
-use Rattle.program.specs.declared.reading.Reading.{Reading}
-use Rattle.program.specs.declared.reading.Reading.the-variants.{Whole}
 
 -- The number of a kind. A byte of v has 0, as an operand that is not there: neither has a range.
 abbrev pub kindCode : Operand → ℕ
@@ -76,7 +74,3 @@ withinCode kind x = leb (getD (getD ranges kind []) 0 0) x && leb x (getD (getD 
 -- The command of a byte, whatever list its operands x and y, or, of PUT, its value v, stand at the start of.
 abbrev pub Made : ℕ → ℕ → ℕ → ℕ → Command → Type 0
 Made op x y v r = (s : List ℕ) → getD s 0 0 ≡ x → getD s 1 0 ≡ y → (op ≡ 12 → word s ≡ v) → r ≡ commandOf op s
-
--- The command of a whole reading.
-pub record IsWhole (r : Reading) (command : Command) : Type 0 where
-  pub whole : (c : Command) (size : ℕ) → r ≡ Whole c size → command ≡ c

@@ -1,6 +1,6 @@
 -- Numbers 14 to 16 in their order, then the command's function.
 use native.Mathlib.Omega.{arith}
-use mathlib.Core.Path.{_≡_, sym, _∙_}
+use mathlib.Core.Path.{sym, _∙_}
 use Rattle.turns.proofs.Turning.{not-spawned, spawned, has-ended, unended, some, stands, waiting, carried}
 use borrow.Author.Needs.{needs}
 use Rattle.turns.proofs.turn.Statement.{statement}

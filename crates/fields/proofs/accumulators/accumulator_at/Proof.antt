@@ -1,7 +1,6 @@
 -- Four bytes, and two of one.
 use native.Mathlib.Omega.{arith}
-use mathlib.Core.Path.{_≡_, sym, ap, _∙_}
-use Rattle.rules.specs.State.{act}
+use mathlib.Core.Path.{ap, _∙_}
 use Rattle.rules.specs.State.{accumulator, operatorOf}
 use Rattle.encoding.proofs.EnumLaws.{operator-there}
 use Rattle.fields.proofs.Fields.{acc-number, value-there, owner-there, operator-byte}

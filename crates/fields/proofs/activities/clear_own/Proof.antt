@@ -1,7 +1,5 @@
 -- 192 bytes.
 use native.Mathlib.Omega.{arith}
-use mathlib.Core.Path.{_≡_, sym, ap, _∙_}
-use Rattle.rules.specs.State.{act}
 use Rattle.fields.proofs.Fields.{lent-length, clear-write}
 use borrow.Author.Needs.{needs}
 use Rattle.fields.proofs.activities.clear_own.Statement.{statement}

@@ -1,7 +1,5 @@
 -- One byte.
 use native.Mathlib.Omega.{arith}
-use mathlib.Core.Path.{_≡_, sym, ap, _∙_}
-use Rattle.rules.specs.State.{act}
 use Rattle.fields.proofs.Fields.{name-read}
 use borrow.Author.Needs.{needs}
 use Rattle.fields.proofs.activities.name_at.Statement.{statement}

@@ -1,6 +1,5 @@
 -- Four bytes.
 use native.Mathlib.Omega.{arith}
-use mathlib.Core.Path.{_≡_, sym, ap, _∙_}
 use Rattle.rules.specs.State.{act}
 use Rattle.fields.proofs.Fields.{mine, fine-register, own-put, register-put}
 use borrow.Author.Needs.{needs}

@@ -1,6 +1,5 @@
 -- One byte.
 use native.Mathlib.Omega.{arith}
-use mathlib.Core.Path.{_≡_, sym, ap, _∙_}
 use Rattle.rules.specs.State.{act}
 use Rattle.fields.proofs.Fields.{mine, fine-spawner, own-put, spawner-put}
 use borrow.Author.Needs.{needs}

@@ -1,6 +1,6 @@
 -- Four bytes.
 use native.Mathlib.Omega.{arith}
-use mathlib.Core.Path.{_≡_, sym, ap, _∙_}
+use mathlib.Core.Path.{_∙_}
 use Rattle.rules.specs.State.{act}
 use Rattle.fields.proofs.Fields.{mine, own-number, register-there}
 use borrow.Author.Needs.{needs}

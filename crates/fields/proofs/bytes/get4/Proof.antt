@@ -1,5 +1,4 @@
 -- The number of four bytes.
-use native.Mathlib.Omega.{arith}
 use Rattle.fields.proofs.Within.{get-part}
 use borrow.Author.Needs.{needs}
 use Rattle.fields.proofs.bytes.get4.Statement.{statement}

@@ -1,7 +1,4 @@
 -- The two lower bytes of four.
-use native.Mathlib.Omega.{arith}
-use mathlib.Core.Path.{_≡_, sym, ap, _∙_}
-use Rattle.rules.specs.State.{act}
 use Rattle.fields.proofs.Fields.{steps-there}
 use borrow.Author.Needs.{needs}
 use Rattle.fields.proofs.counts.steps_of.Statement.{statement}

@@ -1,7 +1,7 @@
 -- Eight bytes.
 use native.Mathlib.Omega.{arith}
-use mathlib.Core.Path.{_≡_, sym, ap, _∙_}
-use Rattle.rules.specs.State.{act, hold, frame}
+use mathlib.Core.Path.{ap, _∙_}
+use Rattle.rules.specs.State.{act, frame}
 use Rattle.encoding.specs.Decode.{frameAt}
 use Rattle.fields.proofs.Fields.{mine, lent-length, frame-part, frame-there}
 use borrow.Author.Needs.{needs}

@@ -1,7 +1,5 @@
 -- Two bytes.
 use native.Mathlib.Omega.{arith}
-use mathlib.Core.Path.{_≡_, sym, ap, _∙_}
-use Rattle.rules.specs.State.{act, hold, frame}
 use Rattle.fields.proofs.Fields.{offset-write}
 use borrow.Author.Needs.{needs}
 use Rattle.fields.proofs.frames.put_offset.Statement.{statement}

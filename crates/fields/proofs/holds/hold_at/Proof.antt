@@ -1,7 +1,7 @@
 -- Two bytes, and two of one.
 use native.Mathlib.Omega.{arith}
-use mathlib.Core.Path.{_≡_, sym, ap, _∙_}
-use Rattle.rules.specs.State.{act, hold, frame}
+use mathlib.Core.Path.{ap, _∙_}
+use Rattle.rules.specs.State.{act, hold}
 use Rattle.encoding.specs.Decode.{registrationOf}
 use Rattle.encoding.proofs.EnumLaws.{registration-there}
 use Rattle.fields.proofs.Fields.{mine, hold-number, phase-there, clock-there, registration-byte}

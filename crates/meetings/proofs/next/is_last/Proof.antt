@@ -1,5 +1,5 @@
 -- Held, and in the last phase.
-use mathlib.Core.Path.{_≡_, sym, _∙_}
+use mathlib.Core.Path.{sym, _∙_}
 use borrow.Author.Needs.{needs}
 use Rattle.meetings.proofs.next.is_last.Statement.{statement}
 use Rattle.meetings.proofs.next.is_last.Tie as tie

@@ -1,11 +1,6 @@
 -- Number 17, passing and arrival.
-use Prim.Native.Nat.{ℕ}
-use mathlib.Core.Path.{_≡_, sym, ap, _∙_}
-use mathlib.Core.Bool.{Bool, false}
-use lib.Dec.{leb}
-use Rattle.rules.specs.declared.state.State.{State}
-use Rattle.rules.specs.State.{act, isAtBarrier}
-use Rattle.fields.specs.Lent.{Lent}
+use mathlib.Core.Path.{sym, ap, _∙_}
+use Rattle.rules.specs.State.{isAtBarrier}
 use Rattle.moves.proofs.Standings.{few, over, spent}
 use Rattle.meetings.proofs.Nexts.{last-phase, gone, arrived}
 use borrow.Author.Needs.{needs}

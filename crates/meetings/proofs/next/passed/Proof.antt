@@ -1,8 +1,6 @@
 -- By the registration, and by the phase.
-use Prim.Native.Nat.{_+_}
 use native.Mathlib.Omega.{arith}
-use mathlib.Core.Path.{_≡_, sym, _∙_}
-use Rattle.rules.specs.Clocks.{isHeld}
+use mathlib.Core.Path.{sym, _∙_}
 use Rattle.meetings.proofs.Nexts.{pass-free}
 use borrow.Author.Needs.{needs}
 use Rattle.meetings.proofs.next.passed.Statement.{statement}

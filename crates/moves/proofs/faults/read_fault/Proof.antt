@@ -1,7 +1,6 @@
 -- Each way is the definition's at the tests that led to it.
-use mathlib.Core.Path.{_≡_, sym, ap, _∙_}
+use mathlib.Core.Path.{sym, ap, _∙_}
 use mathlib.Core.Bool.{cond}
-use Rattle.rules.specs.declared.state.Activity.{Activity}
 use Rattle.moves.proofs.Reading.{unbound-name, others, own-name}
 use borrow.Author.Needs.{needs}
 use Rattle.moves.proofs.faults.read_fault.Statement.{statement}

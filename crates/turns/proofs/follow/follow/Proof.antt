@@ -1,7 +1,6 @@
 -- The invariant: the bytes are those of the state that the turns so far led to, and their answers stand in the buffer.
-use Prim.Native.Nat.{_-_, _≤_}
+use Prim.Native.Nat.{_-_}
 use native.Mathlib.Omega.{arith}
-use mathlib.Core.Path.{_≡_, _∙_}
 use lib.ListN.{length}
 use Rattle.turns.proofs.Following.{Going, going-start, going-on, going-end}
 use borrow.Author.Needs.{needs}
