@@ -1,5 +1,5 @@
 // What is met on the way to a step: the command that an activity stands on, its fault, whether it waits, and what a step would exceed.
-pub mod place; // place.rt: an activity's frames, the command that one stands on, and the place after it
+mod place; // place.rt: an activity's frames, the command that one stands on, and the place after it
 mod values; // values.rt: the value that READ reads
 mod faults; // faults.rt: the fault that a command meets
 mod inside; // inside.rt: whether someone inside a finish has not ended
