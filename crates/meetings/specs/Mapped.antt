@@ -16,7 +16,7 @@ use Rattle.fields.specs.Lent.{Lent, withAct}
 pub record Maps (P : Activity → Type 0) (f : Hold → Hold) (b c : List ℕ) (i : ℕ) : Type 0 where
   pub maps : (s : State) → Lent b s → i < 64 → P (act s i) → Lent c (withAct s i (withHolds (act s i) (act s i .status) (map f (act s i .holds))))
 
--- Nothing is asked.
+-- It has its eight clock names.
 abbrev pub Any : Activity → Type 0
 Any a = length (a .holds) ≡ 8
 
