@@ -1,3 +1,5 @@
 pub mod Within
-pub mod Fields
+pub mod Stands
+pub mod Own
+pub mod Head
 pub mod Start

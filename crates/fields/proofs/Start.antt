@@ -4,11 +4,12 @@ use native.Mathlib.Omega.{arith}
 use mathlib.Core.Path.{_≡_, refl}
 use mathlib.Core.List.{List}
 use lib.ListN.{getD, set, replicate, getD-replicate}
-use Rattle.rules.specs.State.{noFrame, noHold, noFrames, noAccumulator, noActivity, absent}
+use Rattle.rules.specs.State.{noFrames, noAccumulator, noActivity, absent}
 use Rattle.rules.specs.Effects.{withFrames}
 use Rattle.rules.specs.Steps.{startState}
 use Rattle.rules.proofs.Lists.{Stored, new, old, stored}
 use Rattle.encoding.specs.Encode.{encodeState}
+use Rattle.fields.proofs.Stands.{zero-offset, zero-phase}
 use Rattle.fields.specs.Lent.{FineActivity, Fine, Lent}
 
 zero-cell : (d n : ℕ) → getD (replicate n 0) d 0 < 2 ^ 32
@@ -20,16 +21,6 @@ zero-value : (d n : ℕ) → getD (replicate n noAccumulator) d noAccumulator .v
 zero-value d zero = omega arith
 zero-value zero (suc n) = omega arith
 zero-value (suc d) (suc n) = zero-value d n
-
-zero-offset : (d n : ℕ) → getD (replicate n noFrame) d noFrame .offset < 2 ^ 16
-zero-offset d zero = omega arith
-zero-offset zero (suc n) = omega arith
-zero-offset (suc d) (suc n) = zero-offset d n
-
-zero-phase : (k n : ℕ) → getD (replicate n noHold) k noHold .phase < 2 ^ 16
-zero-phase k zero = omega arith
-zero-phase zero (suc n) = omega arith
-zero-phase (suc k) (suc n) = zero-phase k n
 
 -- An activity that was not spawned, whatever its depth says.
 fine-none : (d : ℕ) → FineActivity (withFrames noActivity d noFrames)

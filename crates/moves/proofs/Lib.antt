@@ -3,3 +3,4 @@ pub mod Standings
 pub mod Going
 pub mod Failing
 pub mod Reading
+pub mod Ranges

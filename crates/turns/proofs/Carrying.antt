@@ -6,7 +6,7 @@ use Rattle.program.specs.Bodies.{programOf}
 use Rattle.program.specs.declared.command.Command.{Command}
 use Rattle.program.proofs.Shape.{Ranged}
 use Rattle.moves.specs.Moves.{Turns, TurnsIn}
-use Rattle.turns.proofs.Ranges.{ranged-here}
+use Rattle.moves.proofs.Ranges.{ranged-here}
 
 module _ {t starts b e : List ℕ} {work i r : ℕ} {command c : Command} (q : command ≡ c) where
   -- by a function that reads the table

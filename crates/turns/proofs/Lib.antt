@@ -1,5 +1,4 @@
 pub mod Runs
 pub mod Turning
-pub mod Ranges
 pub mod Following
 pub mod Carrying

@@ -17,7 +17,6 @@ use Rattle.program.specs.declared.command.Command.the-variants.{End, Fetch, Sto
 use Rattle.program.specs.declared.reading.Reading.the-variants.{Whole}
 use Rattle.program.proofs.Basic.{and-true, each-from}
 use Rattle.program.proofs.RangeLaws.{tail-part}
-use Rattle.program.proofs.LocatedBytes.{length-starts}
 use Rattle.program.proofs.Shape.{Ranged, OnCells}
 use Rattle.program.proofs.ShapeReading.{read-as, known}
 use Rattle.program.proofs.ShapeRows.{held-is, width-is}
@@ -32,7 +31,7 @@ use Rattle.rules.specs.Steps.{at}
 use Rattle.rules.proofs.WellFormedFacts.{facts}
 use Rattle.guards.specs.Known.{Known, On}
 use Rattle.guards.specs.Exceeding.{overfull}
-use Rattle.guards.proofs.Places.{body-small, code-inside, sound-here, read-inner}
+use Rattle.guards.proofs.Places.{sound-here, read-inner}
 use Rattle.fields.specs.Lent.{Lent, ReadsAct}
 use Rattle.moves.specs.Moves.{Standing, Turned, GoesOn}
 use Rattle.moves.proofs.Standings.{few, some, shallow, spawned, fault-here}
@@ -137,13 +136,6 @@ cells-at (c ∷ cs) zero h o = o .0
 cells-at (c ∷ cs) (suc j) h o = cells-at cs j (omega arith) (o .2)
 
 module _ {t starts : List ℕ} {f : Frame} {k : ℕ} (ok : Known t starts) (on : On t f (Atom k)) where
-  -- The frame's body is one of the sixteen, and begins inside the table.
-  pub body-there : f .body < length starts
-  body-there = let b = body-small t (ok .scanned) f (on .placed) in rw (ok .laid, length-starts t (ok .scanned)) b
-
-  pub code-there : getD starts (f .body) 0 ≤ length t
-  code-there = rw (ok .laid) (code-inside t (ok .scanned) f (on .placed))
-
   inner-long : length (here (programOf t) f .inner) ≡ k
   inner-long = sound-here t (on .scanned) f (on .placed) .whole ∙ ap held (sym (on .stands)) ∙ held-is (Atom k)
 

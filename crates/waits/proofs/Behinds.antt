@@ -22,7 +22,7 @@ use Rattle.encoding.specs.Bytes.{bytesOf, part, encodeEach}
 use Rattle.encoding.specs.Encode.{statusByte, faultByte, encodeHold, encodeFrame, encodeActivity}
 use Rattle.fields.specs.Lent.{FineActivity, Lent, Reads, ReadsAct}
 use Rattle.fields.proofs.Within.{each-length, part-inside, lent-part}
-use Rattle.fields.proofs.Fields.{hold-length, own-part, mine}
+use Rattle.fields.proofs.Stands.{hold-length, own-part, mine}
 use Rattle.waits.specs.Waits.{BehindIn, BehindOne, Behind}
 
 -- REGISTRATIONS BY THEIR NUMBER

@@ -22,7 +22,8 @@ use Rattle.encoding.specs.Encode.{statusByte}
 use Rattle.guards.specs.Facing.{Rooted}
 use Rattle.guards.proofs.Chains.{Passed, joined, passed-on, passed-hit, passed-ended, passed-outside, passed-end, none-above}
 use Rattle.fields.specs.Lent.{Lent, Gets, Reads, ReadsAct}
-use Rattle.fields.proofs.Fields.{own-number, status-byte}
+use Rattle.fields.proofs.Stands.{own-number}
+use Rattle.fields.proofs.Own.{status-byte}
 use Rattle.waits.specs.Waits.{isUnended, Lowest, Inside}
 
 -- ENDED, BY THE BYTE

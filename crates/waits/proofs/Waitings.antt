@@ -4,23 +4,21 @@ use native.Mathlib.Omega.{arith}
 use mathlib.Core.Path.{_≡_, refl, sym, ap, _∙_, subst}
 use mathlib.Core.List.{List, [], _∷_}
 use mathlib.Core.Bool.{Bool, true, false, _&&_}
-use lib.Dec.{ltb, eqb}
-use borrow.Author.Tests.{ltb-true, lt-ltb, le-ltb, eq-eqb, ne-eqb}
+use lib.Dec.{eqb}
+use borrow.Author.Tests.{lt-ltb, le-ltb, eq-eqb, ne-eqb}
 use types.Run.{OneOf, miss}
 use denote.Enum.Declared.{tagOf}
-use Rattle.program.specs.Command.{rows, rowAt, rowOf}
 use Rattle.program.specs.Bodies.{Program, programOf}
 use Rattle.program.specs.declared.command.Command.{Command}
 use Rattle.program.specs.declared.command.Command.the-variants.{End, Next, Clock, Resume, Drop, Async, Finish, Repeat, Acc, Offer, Read, Reset, Put, Fetch, Store, Add, Atom}
 use Rattle.program.proofs.command.Command.{the-type}
-use Rattle.program.proofs.Basic.{and-true}
 use Rattle.program.proofs.Shape.{Ranged}
 use Rattle.rules.specs.declared.state.Status.{Status}
 use Rattle.rules.specs.declared.state.Frame.{Frame}
 use Rattle.rules.specs.declared.state.Activity.{Activity}
 use Rattle.rules.specs.declared.state.State.{State}
 use Rattle.rules.specs.Search.{someBelow}
-use Rattle.rules.specs.State.{act, frame, top, bound, ended, isAtBarrier}
+use Rattle.rules.specs.State.{act, frame, top, bound, isAtBarrier}
 use Rattle.rules.specs.Tree.{here, isFinish, finishes, inFinishBody}
 use Rattle.rules.specs.WellFormed.{isPlaced, wellFormed}
 use Rattle.rules.specs.Faults.{readFault, faultFor}
@@ -33,8 +31,8 @@ use Rattle.guards.specs.Facing.{Placed}
 use Rattle.guards.specs.Views.{Fit}
 use Rattle.guards.proofs.Chains.{unended-below}
 use Rattle.guards.proofs.Facing.{nobody-waited, guard-shut, guard-open, placed, rooted}
-use Rattle.guards.proofs.Places.{sound-here}
 use Rattle.fields.specs.Lent.{Lent, ReadsAct}
+use Rattle.moves.proofs.Ranges.{read-small, reset-small, ranged-at}
 use Rattle.moves.specs.Moves.{ReadFault}
 use Rattle.waits.specs.Waits.{Inside, Behind, EndWaits, NextWaits, OwnWaits, Waits}
 
@@ -148,14 +146,6 @@ and-false : (b : Bool) → b && false ≡ false
 and-false true = refl
 and-false false = refl
 
-read-small : {n : ℕ} → Ranged (Read n) → n < 8
-unfolding Ranged rowOf rowAt rows
-read-small {n} r = ltb-true n 8 (and-true (ltb n 8) true r .0)
-
-reset-small : {n : ℕ} → Ranged (Reset n) → n < 8
-unfolding Ranged rowOf rowAt rows
-reset-small {n} r = ltb-true n 8 (and-true (ltb n 8) true r .0)
-
 -- what a well-formed state gives
 fit-of : {t starts : List ℕ} {s : State} → Known t starts → wellFormed 65535 (programOf t) s ≡ true → Fit t starts s
 fit-of k w = record { known = k; formed = w }
@@ -169,13 +159,6 @@ module _ {t starts : List ℕ} {s : State} (f : Fit t starts s) {i : ℕ} (m : i
 
   bound-of : {n : ℕ} → n < 8 → bound (act s i) n ≤ 16
   bound-of {n} h = let x = fact .spawned i m .bounds n h in let y = fact .accs16 in omega arith
-
-  ranged-here : ended s i ≡ false → Ranged (at (programOf t) s i .command)
-  unfolding at
-  ranged-here u =
-      let k = placed f m u .stack in
-      let some = k .some in
-      sound-here t (f .known .scanned) (top (act s i)) (k .placed (act s i .depth - 1) (omega arith)) .ranged
 
 own-tells : {t starts b : List ℕ} {s : State} {i n y : ℕ} {r : Bool} → y ≡ n → (y < 8 → OwnWaits y b i r) → Lent b s → Fit t starts s → i < s .activities → n < 8
     → r ≡ eqb (readFault (envOf s) i (act s i) n) 0 && someBelow (s .activities) (unendedBelow s i)
@@ -198,13 +181,13 @@ module _ {t starts b : List ℕ} {i : ℕ} {c : Command} where
     pub waits-read : c ≡ Read n → Waits t starts c b i r
     unfolding waits fault faultFor waitsAt waitsFor
     waits-read e = record {
-      tells = λ k s l w m u a. let f = fit-of k w in rw (a ∙ e) (own-tells same g l f m (read-small (subst Ranged (a ∙ e) (ranged-here f m u))));
+      tells = λ k s l w m u a. let f = fit-of k w in rw (a ∙ e) (own-tells same g l f m (read-small (subst Ranged (a ∙ e) (ranged-at s (f .known) (f .formed) m u))));
     }
 
     pub waits-reset : c ≡ Reset n → Waits t starts c b i r
     unfolding waits fault faultFor waitsAt waitsFor
     waits-reset e = record {
-      tells = λ k s l w m u a. let f = fit-of k w in rw (a ∙ e) (own-tells same g l f m (reset-small (subst Ranged (a ∙ e) (ranged-here f m u))));
+      tells = λ k s l w m u a. let f = fit-of k w in rw (a ∙ e) (own-tells same g l f m (reset-small (subst Ranged (a ∙ e) (ranged-at s (f .known) (f .formed) m u))));
     }
 
 pub waits-other : {t starts b : List ℕ} {i : ℕ} (c : Command) → OneOf others (tagOf the-type c) → Waits t starts c b i false

@@ -10,28 +10,24 @@ use Rattle.program.specs.Bodies.{programOf}
 use Rattle.program.specs.Reading.{read}
 use Rattle.program.specs.declared.reading.Reading.the-variants.{Whole}
 use Rattle.program.proofs.RangeLaws.{tail-part, whole-bare}
-use Rattle.program.proofs.LocatedBytes.{length-starts}
 use Rattle.rules.specs.declared.state.Frame.{Frame}
 use Rattle.rules.specs.Tree.{here}
 use Rattle.rules.specs.WellFormed.{isPlaced}
 use Rattle.guards.specs.Known.{Known}
-use Rattle.guards.proofs.Places.{body-small, code-inside, read-here}
+use Rattle.guards.proofs.Places.{read-here}
+use Rattle.places.proofs.Starts.{body-there, code-there}
 use borrow.Author.Needs.{needs}
 use Rattle.places.proofs.command_at.Statement.{statement}
 use Rattle.places.proofs.command_at.Tie as tie
 
--- There are sixteen starts.
-sixteen : (t starts : List ℕ) → Known t starts → length starts ≡ 16
-sixteen t starts k = rw (k .laid) (length-starts t (k .scanned))
-
 module _ (t starts : List ℕ) (f : Frame) (k : Known t starts) (on : isPlaced (programOf t) f ≡ true) where
   -- The body has a start.
   listed : {b : ℕ} → b ≡ f .body → length starts ≤ b → ⊥
-  listed e h = let b = body-small t (k .scanned) f on in let n = sixteen t starts k in omega arith
+  listed e h = let b = body-there f k on in omega arith
 
   -- The body's first byte lies inside the table.
   inside-here : {b : ℕ} → b ≡ f .body → length t < getD starts b 0 → ⊥
-  inside-here e h = let q = rw (← k .laid, ← e) at (code-inside t (k .scanned) f on) in omega arith
+  inside-here e h = let q = rw (← e) at (code-there f k on) in omega arith
 
   -- What is read there.
   read-there : {b : ℕ} → b ≡ f .body → read (drop (f .offset) (drop (getD starts b 0) t)) ≡ Whole (here (programOf t) f .command) (width (here (programOf t) f .command))

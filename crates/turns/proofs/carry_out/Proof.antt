@@ -1,5 +1,5 @@
 -- Each arm is its command's function.
-use Rattle.turns.proofs.Ranges.{clock-small, resume-small, drop-small, acc-small, offer-small, read-small, reset-small, fetch-small, store-small, add-small}
+use Rattle.moves.proofs.Ranges.{clock-small, resume-small, drop-small, acc-small, offer-small, read-small, reset-small, fetch-small, store-small, add-small}
 use Rattle.turns.proofs.Carrying.{reading, simply, ranging}
 use borrow.Author.Needs.{needs}
 use Rattle.turns.proofs.carry_out.Statement.{statement}

@@ -3,7 +3,7 @@ use native.Mathlib.Omega.{arith}
 use mathlib.Core.Path.{ap, _∙_}
 use Rattle.rules.specs.State.{accumulator, operatorOf}
 use Rattle.encoding.proofs.EnumLaws.{operator-there}
-use Rattle.fields.proofs.Fields.{acc-number, value-there, owner-there, operator-byte}
+use Rattle.fields.proofs.Head.{acc-number, value-there, owner-there, operator-byte}
 use borrow.Author.Needs.{needs}
 use Rattle.fields.proofs.accumulators.accumulator_at.Statement.{statement}
 use Rattle.fields.proofs.accumulators.accumulator_at.Tie as tie

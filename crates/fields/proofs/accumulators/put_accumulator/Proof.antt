@@ -1,6 +1,7 @@
 -- Twenty-four bytes.
 use native.Mathlib.Omega.{arith}
-use Rattle.fields.proofs.Fields.{lent-length, acc-write}
+use Rattle.fields.proofs.Stands.{lent-length}
+use Rattle.fields.proofs.Head.{acc-write}
 use borrow.Author.Needs.{needs}
 use Rattle.fields.proofs.accumulators.put_accumulator.Statement.{statement}
 use Rattle.fields.proofs.accumulators.put_accumulator.Tie as tie

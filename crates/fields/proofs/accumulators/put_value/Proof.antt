@@ -1,6 +1,6 @@
 -- Four bytes.
 use native.Mathlib.Omega.{arith}
-use Rattle.fields.proofs.Fields.{value-write}
+use Rattle.fields.proofs.Head.{value-write}
 use borrow.Author.Needs.{needs}
 use Rattle.fields.proofs.accumulators.put_value.Statement.{statement}
 use Rattle.fields.proofs.accumulators.put_value.Tie as tie

@@ -1,6 +1,7 @@
 -- 192 bytes.
 use native.Mathlib.Omega.{arith}
-use Rattle.fields.proofs.Fields.{lent-length, clear-write}
+use Rattle.fields.proofs.Stands.{lent-length}
+use Rattle.fields.proofs.Own.{clear-write}
 use borrow.Author.Needs.{needs}
 use Rattle.fields.proofs.activities.clear_own.Statement.{statement}
 use Rattle.fields.proofs.activities.clear_own.Tie as tie

@@ -1,6 +1,6 @@
 -- One byte.
 use native.Mathlib.Omega.{arith}
-use Rattle.fields.proofs.Fields.{name-read}
+use Rattle.fields.proofs.Own.{name-read}
 use borrow.Author.Needs.{needs}
 use Rattle.fields.proofs.activities.name_at.Statement.{statement}
 use Rattle.fields.proofs.activities.name_at.Tie as tie

@@ -1,7 +1,8 @@
 -- One byte.
 use native.Mathlib.Omega.{arith}
 use Rattle.rules.specs.State.{act}
-use Rattle.fields.proofs.Fields.{mine, fine-depth, own-put, depth-put}
+use Rattle.fields.proofs.Stands.{mine, fine-depth, own-put}
+use Rattle.fields.proofs.Own.{depth-put}
 use borrow.Author.Needs.{needs}
 use Rattle.fields.proofs.activities.put_depth.Statement.{statement}
 use Rattle.fields.proofs.activities.put_depth.Tie as tie

@@ -1,6 +1,6 @@
 -- One byte.
 use native.Mathlib.Omega.{arith}
-use Rattle.fields.proofs.Fields.{name-write}
+use Rattle.fields.proofs.Own.{name-write}
 use borrow.Author.Needs.{needs}
 use Rattle.fields.proofs.activities.put_name.Statement.{statement}
 use Rattle.fields.proofs.activities.put_name.Tie as tie

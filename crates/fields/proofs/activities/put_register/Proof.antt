@@ -1,7 +1,8 @@
 -- Four bytes.
 use native.Mathlib.Omega.{arith}
 use Rattle.rules.specs.State.{act}
-use Rattle.fields.proofs.Fields.{mine, fine-register, own-put, register-put}
+use Rattle.fields.proofs.Stands.{mine, fine-register, own-put}
+use Rattle.fields.proofs.Own.{register-put}
 use borrow.Author.Needs.{needs}
 use Rattle.fields.proofs.activities.put_register.Statement.{statement}
 use Rattle.fields.proofs.activities.put_register.Tie as tie

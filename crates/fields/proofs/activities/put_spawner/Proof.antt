@@ -1,7 +1,8 @@
 -- One byte.
 use native.Mathlib.Omega.{arith}
 use Rattle.rules.specs.State.{act}
-use Rattle.fields.proofs.Fields.{mine, fine-spawner, own-put, spawner-put}
+use Rattle.fields.proofs.Stands.{mine, own-put}
+use Rattle.fields.proofs.Own.{fine-spawner, spawner-put}
 use borrow.Author.Needs.{needs}
 use Rattle.fields.proofs.activities.put_spawner.Statement.{statement}
 use Rattle.fields.proofs.activities.put_spawner.Tie as tie

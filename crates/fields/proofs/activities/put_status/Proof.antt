@@ -2,7 +2,8 @@
 use native.Mathlib.Omega.{arith}
 use mathlib.Core.Path.{_∙_}
 use Rattle.rules.specs.State.{act}
-use Rattle.fields.proofs.Fields.{mine, fine-status, own-put, status-put}
+use Rattle.fields.proofs.Stands.{mine, fine-status, own-put}
+use Rattle.fields.proofs.Own.{status-put}
 use borrow.Author.Needs.{needs}
 use Rattle.fields.proofs.activities.put_status.Statement.{statement}
 use Rattle.fields.proofs.activities.put_status.Tie as tie

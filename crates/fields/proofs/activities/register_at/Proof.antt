@@ -2,7 +2,8 @@
 use native.Mathlib.Omega.{arith}
 use mathlib.Core.Path.{_∙_}
 use Rattle.rules.specs.State.{act}
-use Rattle.fields.proofs.Fields.{mine, own-number, register-there}
+use Rattle.fields.proofs.Stands.{mine, own-number}
+use Rattle.fields.proofs.Own.{register-there}
 use borrow.Author.Needs.{needs}
 use Rattle.fields.proofs.activities.register_at.Statement.{statement}
 use Rattle.fields.proofs.activities.register_at.Tie as tie

@@ -2,7 +2,8 @@
 use native.Mathlib.Omega.{arith}
 use mathlib.Core.Path.{_∙_}
 use Rattle.rules.specs.State.{act}
-use Rattle.fields.proofs.Fields.{own-number, spawner-there}
+use Rattle.fields.proofs.Stands.{own-number}
+use Rattle.fields.proofs.Own.{spawner-there}
 use borrow.Author.Needs.{needs}
 use Rattle.fields.proofs.activities.spawner_at.Statement.{statement}
 use Rattle.fields.proofs.activities.spawner_at.Tie as tie

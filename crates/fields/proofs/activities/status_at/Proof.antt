@@ -2,7 +2,8 @@
 use native.Mathlib.Omega.{arith}
 use mathlib.Core.Path.{_∙_}
 use Rattle.rules.specs.State.{act}
-use Rattle.fields.proofs.Fields.{own-number, status-byte, fault-byte, status-of-bytes}
+use Rattle.fields.proofs.Stands.{own-number}
+use Rattle.fields.proofs.Own.{status-byte, fault-byte, status-of-bytes}
 use borrow.Author.Needs.{needs}
 use Rattle.fields.proofs.activities.status_at.Statement.{statement}
 use Rattle.fields.proofs.activities.status_at.Tie as tie

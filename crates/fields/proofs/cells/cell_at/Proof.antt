@@ -1,6 +1,6 @@
 -- Four bytes.
 use native.Mathlib.Omega.{arith}
-use Rattle.fields.proofs.Fields.{cell-there}
+use Rattle.fields.proofs.Head.{cell-there}
 use borrow.Author.Needs.{needs}
 use Rattle.fields.proofs.cells.cell_at.Statement.{statement}
 use Rattle.fields.proofs.cells.cell_at.Tie as tie

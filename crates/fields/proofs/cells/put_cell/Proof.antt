@@ -1,6 +1,6 @@
 -- Four bytes.
 use native.Mathlib.Omega.{arith}
-use Rattle.fields.proofs.Fields.{cell-write}
+use Rattle.fields.proofs.Head.{cell-write}
 use borrow.Author.Needs.{needs}
 use Rattle.fields.proofs.cells.put_cell.Statement.{statement}
 use Rattle.fields.proofs.cells.put_cell.Tie as tie

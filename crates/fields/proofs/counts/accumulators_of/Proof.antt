@@ -1,5 +1,5 @@
 -- One byte.
-use Rattle.fields.proofs.Fields.{accumulators-there}
+use Rattle.fields.proofs.Head.{accumulators-there}
 use borrow.Author.Needs.{needs}
 use Rattle.fields.proofs.counts.accumulators_of.Statement.{statement}
 use Rattle.fields.proofs.counts.accumulators_of.Tie as tie

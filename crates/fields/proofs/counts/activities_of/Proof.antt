@@ -1,5 +1,5 @@
 -- One byte.
-use Rattle.fields.proofs.Fields.{activities-there}
+use Rattle.fields.proofs.Head.{activities-there}
 use borrow.Author.Needs.{needs}
 use Rattle.fields.proofs.counts.activities_of.Statement.{statement}
 use Rattle.fields.proofs.counts.activities_of.Tie as tie

@@ -1,5 +1,5 @@
 -- One byte.
-use Rattle.fields.proofs.Fields.{clocks-there}
+use Rattle.fields.proofs.Head.{clocks-there}
 use borrow.Author.Needs.{needs}
 use Rattle.fields.proofs.counts.clocks_of.Statement.{statement}
 use Rattle.fields.proofs.counts.clocks_of.Tie as tie

@@ -1,6 +1,6 @@
 -- One byte.
 use native.Mathlib.Omega.{arith}
-use Rattle.fields.proofs.Fields.{accumulators-put}
+use Rattle.fields.proofs.Head.{accumulators-put}
 use borrow.Author.Needs.{needs}
 use Rattle.fields.proofs.counts.put_accumulators.Statement.{statement}
 use Rattle.fields.proofs.counts.put_accumulators.Tie as tie

@@ -1,6 +1,6 @@
 -- One byte.
 use native.Mathlib.Omega.{arith}
-use Rattle.fields.proofs.Fields.{activities-put}
+use Rattle.fields.proofs.Head.{activities-put}
 use borrow.Author.Needs.{needs}
 use Rattle.fields.proofs.counts.put_activities.Statement.{statement}
 use Rattle.fields.proofs.counts.put_activities.Tie as tie

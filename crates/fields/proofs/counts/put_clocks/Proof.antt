@@ -1,6 +1,6 @@
 -- One byte.
 use native.Mathlib.Omega.{arith}
-use Rattle.fields.proofs.Fields.{clocks-put}
+use Rattle.fields.proofs.Head.{clocks-put}
 use borrow.Author.Needs.{needs}
 use Rattle.fields.proofs.counts.put_clocks.Statement.{statement}
 use Rattle.fields.proofs.counts.put_clocks.Tie as tie

@@ -1,6 +1,6 @@
 -- Four bytes.
 use native.Mathlib.Omega.{arith}
-use Rattle.fields.proofs.Fields.{steps-put}
+use Rattle.fields.proofs.Head.{steps-put}
 use borrow.Author.Needs.{needs}
 use Rattle.fields.proofs.counts.put_steps.Statement.{statement}
 use Rattle.fields.proofs.counts.put_steps.Tie as tie

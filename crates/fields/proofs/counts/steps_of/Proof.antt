@@ -1,5 +1,5 @@
 -- The two lower bytes of four.
-use Rattle.fields.proofs.Fields.{steps-there}
+use Rattle.fields.proofs.Head.{steps-there}
 use borrow.Author.Needs.{needs}
 use Rattle.fields.proofs.counts.steps_of.Statement.{statement}
 use Rattle.fields.proofs.counts.steps_of.Tie as tie

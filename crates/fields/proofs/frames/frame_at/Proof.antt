@@ -3,7 +3,8 @@ use native.Mathlib.Omega.{arith}
 use mathlib.Core.Path.{ap, _∙_}
 use Rattle.rules.specs.State.{act, frame}
 use Rattle.encoding.specs.Decode.{frameAt}
-use Rattle.fields.proofs.Fields.{mine, lent-length, frame-part, frame-there}
+use Rattle.fields.proofs.Stands.{mine, lent-length}
+use Rattle.fields.proofs.Own.{frame-part, frame-there}
 use borrow.Author.Needs.{needs}
 use Rattle.fields.proofs.frames.frame_at.Statement.{statement}
 use Rattle.fields.proofs.frames.frame_at.Tie as tie

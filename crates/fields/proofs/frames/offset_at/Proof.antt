@@ -2,7 +2,8 @@
 use native.Mathlib.Omega.{arith}
 use mathlib.Core.Path.{_∙_}
 use Rattle.rules.specs.State.{act, frame}
-use Rattle.fields.proofs.Fields.{mine, frame-number, offset-there}
+use Rattle.fields.proofs.Stands.{mine}
+use Rattle.fields.proofs.Own.{frame-number, offset-there}
 use borrow.Author.Needs.{needs}
 use Rattle.fields.proofs.frames.offset_at.Statement.{statement}
 use Rattle.fields.proofs.frames.offset_at.Tie as tie

@@ -1,6 +1,7 @@
 -- Eight bytes.
 use native.Mathlib.Omega.{arith}
-use Rattle.fields.proofs.Fields.{lent-length, frame-write}
+use Rattle.fields.proofs.Stands.{lent-length}
+use Rattle.fields.proofs.Own.{frame-write}
 use borrow.Author.Needs.{needs}
 use Rattle.fields.proofs.frames.put_frame.Statement.{statement}
 use Rattle.fields.proofs.frames.put_frame.Tie as tie

@@ -1,6 +1,6 @@
 -- Two bytes.
 use native.Mathlib.Omega.{arith}
-use Rattle.fields.proofs.Fields.{offset-write}
+use Rattle.fields.proofs.Own.{offset-write}
 use borrow.Author.Needs.{needs}
 use Rattle.fields.proofs.frames.put_offset.Statement.{statement}
 use Rattle.fields.proofs.frames.put_offset.Tie as tie

@@ -4,7 +4,8 @@ use mathlib.Core.Path.{ap, _∙_}
 use Rattle.rules.specs.State.{act, hold}
 use Rattle.encoding.specs.Decode.{registrationOf}
 use Rattle.encoding.proofs.EnumLaws.{registration-there}
-use Rattle.fields.proofs.Fields.{mine, hold-number, phase-there, clock-there, registration-byte}
+use Rattle.fields.proofs.Stands.{mine}
+use Rattle.fields.proofs.Own.{hold-number, phase-there, clock-there, registration-byte}
 use borrow.Author.Needs.{needs}
 use Rattle.fields.proofs.holds.hold_at.Statement.{statement}
 use Rattle.fields.proofs.holds.hold_at.Tie as tie

@@ -1,6 +1,7 @@
 -- Eight bytes.
 use native.Mathlib.Omega.{arith}
-use Rattle.fields.proofs.Fields.{lent-length, hold-write}
+use Rattle.fields.proofs.Stands.{lent-length}
+use Rattle.fields.proofs.Own.{hold-write}
 use borrow.Author.Needs.{needs}
 use Rattle.fields.proofs.holds.put_hold.Statement.{statement}
 use Rattle.fields.proofs.holds.put_hold.Tie as tie

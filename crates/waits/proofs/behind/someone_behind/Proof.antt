@@ -5,7 +5,7 @@ use mathlib.Core.Path.{_≡_, refl, _∙_}
 use mathlib.Core.Bool.{false}
 use mathlib.Core.Logic.{⊎-elim}
 use Rattle.encoding.proofs.FieldLaws.{sized}
-use Rattle.fields.proofs.Fields.{lent-length}
+use Rattle.fields.proofs.Stands.{lent-length}
 use Rattle.waits.proofs.Behinds.{NobodyTo, nobody-yet, nobody-more, Unblocked, unblocked-yet, unblocked, name-free, name-passed, name-behind}
 use borrow.Author.Needs.{needs}
 use Rattle.waits.proofs.behind.someone_behind.Statement.{statement}
