@@ -60,12 +60,12 @@ first b = record { offset = 0; body = b; runs = 0; first = 0 }
 
 -- what the child's entry is before the names and the clocks
 abbrev pub young : ℕ → ℕ → ℕ → Activity → Activity
-young hand w b x = withDepth (withFrame (withSpawner (withRegister (stopped x Running) hand) w) 0 (first b)) 1
+young reg w b x = withDepth (withFrame (withSpawner (withRegister (stopped x Running) reg) w) 0 (first b)) 1
 
-pub grown : {b₀ b₁ b₂ b₃ b₄ b₅ : List ℕ} {n : ℕ} (hand w b : ℕ) → WritesAct (λ (a : Activity). stopped a Running) b₀ b₁ n → WritesAct (λ (a : Activity). withRegister a hand) b₁ b₂ n
+pub grown : {b₀ b₁ b₂ b₃ b₄ b₅ : List ℕ} {n : ℕ} (reg w b : ℕ) → WritesAct (λ (a : Activity). stopped a Running) b₀ b₁ n → WritesAct (λ (a : Activity). withRegister a reg) b₁ b₂ n
     → WritesAct (λ (a : Activity). withSpawner a w) b₂ b₃ n → WritesAct (λ (a : Activity). withFrame a 0 (first b)) b₃ b₄ n → WritesAct (λ (a : Activity). withDepth a 1) b₄ b₅ n
-    → WritesAct (young hand w b) b₀ b₅ n
-grown hand w b f g h k d = then (then (then (then f g) h) k) d
+    → WritesAct (young reg w b) b₀ b₅ n
+grown reg w b f g h k d = then (then (then (then f g) h) k) d
 
 -- the child, the count, and the spawner, who goes on
 applied-spawning : (s : State) (i n v : ℕ) (x kid : Activity) → n ≡ s .activities → v ≡ n + 1 → (i ≡ n → ⊥)
@@ -83,14 +83,14 @@ module _ {b₀ : List ℕ} {p : Program} {s : State} {i work b m : ℕ} (l : Len
   unfolding exceedsAt overfull
   crowded h = asks w (sym clear) (rw (sym left, le-leb 64 (s .activities) h))
 
-  pub born : {b₁ b₂ b₃ b₄ : List ℕ} {n hand o v r : ℕ} → n ≡ s .activities → n < 64 → hand ≡ act s i .register → o ≡ i → WritesAct (young hand o b) b₀ b₁ n → Gives m b₁ b₂ i n → v ≡ n + 1
+  pub born : {b₁ b₂ b₃ b₄ : List ℕ} {n reg o v r : ℕ} → n ≡ s .activities → n < 64 → reg ≡ act s i .register → o ≡ i → WritesAct (young reg o b) b₀ b₁ n → Gives m b₁ b₂ i n → v ≡ n + 1
       → Writes (λ (t : State). withActivities t v) b₂ b₃ → GoesOn b₃ b₄ i 3 r → Turned p s i b₄ r
   unfolding effectOf overfull past width held rowOf rowAt rows isEnd withActivities child
-  born {n = n} {hand = hand} {o = o} {v = v} e few-acts x y f g z c k =
+  born {n = n} {reg = reg} {o = o} {v = v} e few-acts x y f g z c k =
       let a = act s i in
       let d : i ≡ n → ⊥ = λ q. let u = spawned w in omega arith in
       let u = f .writes s l few-acts in
-      let old = young hand o b (act s n) in
+      let old = young reg o b (act s n) in
       let q : act (withAct s n old) n ≡ old = act-with old l few-acts in
       let same : act (withAct s n old) i ≡ a = act-other s i n old d in
       let grew = g .gives _ u (few w) few-acts d (ap (λ (t : Activity). t .holds) q) in

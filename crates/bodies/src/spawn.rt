@@ -62,9 +62,9 @@ fn fork(work: u64, state: &mut [u8], i: usize, b: u8, m: u8) -> u8
         return 17;
     }
     let n = made as usize;
-    let hand = register_at(state, i);
+    let register = register_at(state, i);
     stop(state, n, Status::Running);
-    put_register(state, n, hand);
+    put_register(state, n, register);
     put_spawner(state, n, (i % 256) as u8);
     put_frame(
         state,

@@ -1,6 +1,10 @@
 // Turns in the lent bytes: the command's function for whoever does not wait, and orders of turns.
 ghost use Rattle.moves.specs.Moves.{TurnsIn};
 ghost use Rattle.turns.specs.Turns.{TurnsAny};
+use barriers::clock::clock;
+use barriers::next::next;
+use barriers::rehold::drop;
+use barriers::rehold::resume;
 use bodies::end::end;
 use bodies::finish::finish;
 use bodies::repeat::repeat;
@@ -9,10 +13,6 @@ use fields::activities::depth_at;
 use fields::activities::status_at;
 use fields::counts::activities_of;
 use fields::frames::frame_at;
-use meetings::clock::clock;
-use meetings::next::next;
-use meetings::rehold::drop;
-use meetings::rehold::resume;
 use parts::checks::is_ended;
 use places::command_at;
 use program::command::Command;

@@ -70,13 +70,13 @@ module _ {b b₁ b₂ : List ℕ} {p : Program} {s : State} {i work n e k r : �
       let t = went w refl refl left (put .writes s l (few w)) (ap (λ (a : Activity). a .frames) o) (ap (λ (a : Activity). a .depth) o) (steps-with s i x) g in
       done-alone w (clear l w small test (fault-here w) z) (plain w left refl (λ q. omega arith)) (past p x) (rw (q, h)) (rw (o, with-with) at t) (g .number ∙ sym (calm w))
 
-  pub was-reset : {hand : ℕ} → Standing p s i work (Reset n) → ReadsAct (λ (a : Activity). a .register) b i hand
-      → (e - 1 < 16 → Writes (λ (t : State). withAcc t (e - 1) (withValue (accumulator t (e - 1)) hand)) b b₁) → Turned p s i b₂ r
+  pub was-reset : {reg : ℕ} → Standing p s i work (Reset n) → ReadsAct (λ (a : Activity). a .register) b i reg
+      → (e - 1 < 16 → Writes (λ (t : State). withAcc t (e - 1) (withValue (accumulator t (e - 1)) reg)) b b₁) → Turned p s i b₂ r
   unfolding faultFor effectOf overfull past width held rowOf rowAt rows isEnd applied withStores withAct withSteps withAcc
-  was-reset {hand} w own put =
+  was-reset {reg} w own put =
       let h = under small .reads s l (few w) in
       let m = bounds w n small in
       let j : e - 1 < 16 = omega (arith, bound-here l w small test (fault-here w) z under) in
-      let y : hand ≡ act s i .register = own .reads s l (few w) in
+      let y : reg ≡ act s i .register = own .reads s l (few w) in
       let t = went w refl refl left (put j .writes s l) refl refl refl g in
       done w (clear l w small test (fault-here w) z) (plain w left refl (λ o. omega arith)) (rw (y, h) at t) (g .number ∙ sym (calm w))

@@ -92,15 +92,15 @@ module _ {b c : List ℕ} {i d v : ℕ} (small : d < 16) where
             rw e at (w small .writes _ l);
       }
 
-  pub adds : {hand sum : ℕ} → (d < 16 → Reads (λ (s : State). getD (s .cells) d 0) b v) → ReadsAct (λ (a : Activity). a .register) b i hand → sum ≡ (v + hand) % 2 ^ 32
+  pub adds : {reg sum : ℕ} → (d < 16 → Reads (λ (s : State). getD (s .cells) d 0) b v) → ReadsAct (λ (a : Activity). a .register) b i reg → sum ≡ (v + reg) % 2 ^ 32
       → (d < 16 → Writes (λ (s : State). withCell s d sum) b c) → Touches (Add d) b c i
   unfolding touch touched withCell withStores
-  adds {hand} {sum} f g q w =
+  adds {reg} {sum} f g q w =
       record {
         touches =
             λ s x l h.
             let e : v ≡ cellAfter (cellIn s) (x .stores) d = f small .reads _ l ∙ cell-there s i x l small in
-            let k : hand ≡ x .register = g .reads _ l h ∙ ap (λ (a : Activity). a .register) (own-there s i x l h) in
+            let k : reg ≡ x .register = g .reads _ l h ∙ ap (λ (a : Activity). a .register) (own-there s i x l h) in
             rw (q, e, k) at (w small .writes _ l);
       }
 

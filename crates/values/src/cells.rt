@@ -22,8 +22,8 @@ pub fn fetch_cell(state: &mut [u8], i: usize, d: usize)
 pub fn store_cell(state: &mut [u8], i: usize, d: usize)
     ensures { λ _. ⌜ (d < 16 → Touches (Store d) (now (state .entry)) (now (state .exit)) i) ⌝ }
 {
-    let hand = register_at(state, i);
-    put_cell(state, d, hand);
+    let register = register_at(state, i);
+    put_cell(state, d, register);
 }
 
 // The cell becomes the cell plus the register modulo 2^32.
@@ -31,8 +31,8 @@ pub fn add_cell(state: &mut [u8], i: usize, d: usize)
     ensures { λ _. ⌜ (d < 16 → Touches (Add d) (now (state .entry)) (now (state .exit)) i) ⌝ }
 {
     let v = cell_at(state, d);
-    let hand = register_at(state, i);
-    put_cell(state, d, std::num::wrapping_add_u32(v, hand));
+    let register = register_at(state, i);
+    put_cell(state, d, std::num::wrapping_add_u32(v, register));
 }
 
 // FETCH: the register becomes the cell.

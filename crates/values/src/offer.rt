@@ -26,7 +26,7 @@ pub fn offer(work: u64, state: &mut [u8], i: usize, n: usize) -> u8
     let number = entry - 1;
     let c = accumulator_at(state, number);
     let operator = c.operator;
-    let hand = register_at(state, i);
-    put_value(state, number, reduce(operator, c.value, hand));
+    let register = register_at(state, i);
+    put_value(state, number, reduce(operator, c.value, register));
     go_on(state, i, 2)
 }

@@ -26,7 +26,7 @@ pub fn reset(work: u64, state: &mut [u8], i: usize, n: usize) -> u8
     if entry == 0 {
         return 0;
     }
-    let hand = register_at(state, i);
-    put_value(state, entry - 1, hand);
+    let register = register_at(state, i);
+    put_value(state, entry - 1, register);
     go_on(state, i, 2)
 }

@@ -26,7 +26,7 @@ use Rattle.rules.proofs.Search.{someBelow-none}
 use Rattle.guards.specs.Exceeding.{someLast, overfull, overtakes, exceedsAt}
 use Rattle.fields.specs.Lent.{FineActivity, Lent, WritesAct, withAct, withStatus}
 use Rattle.moves.specs.Moves.{Standing, Turned, Counts, GoesOn}
-use Rattle.meetings.specs.Mapped.{Maps, Any, Passable}
+use Rattle.barriers.specs.Mapped.{Maps, Any, Passable}
 use Rattle.moves.proofs.Withs.{act-with, with-with, steps-with}
 use Rattle.moves.proofs.Standings.{few, fault-here, asks, steps-room, went, done-alone}
 

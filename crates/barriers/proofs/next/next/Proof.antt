@@ -2,10 +2,10 @@
 use mathlib.Core.Path.{sym, ap, _∙_}
 use Rattle.rules.specs.State.{isAtBarrier}
 use Rattle.moves.proofs.Standings.{few, over, spent}
-use Rattle.meetings.proofs.Nexts.{last-phase, gone, arrived}
+use Rattle.barriers.proofs.Nexts.{last-phase, gone, arrived}
 use borrow.Author.Needs.{needs}
-use Rattle.meetings.proofs.next.next.Statement.{statement}
-use Rattle.meetings.proofs.next.next.Tie as tie
+use Rattle.barriers.proofs.next.next.Statement.{statement}
+use Rattle.barriers.proofs.next.next.Tie as tie
 
 returns : tie.Need-returns
 returns c = record { turns = λ p s l w. over w l (spent w (sym (c .if1 .taken) ∙ c .before .is-spent .ensures .reads s l)) }

@@ -3,12 +3,12 @@ use Prim.Native.Nat.{_-_}
 use mathlib.Core.Path.{_≡_, refl, _∙_}
 use lib.ListN.{length}
 use Rattle.rules.specs.Clocks.{pass}
-use Rattle.meetings.specs.Mapped.{Passable}
-use Rattle.meetings.proofs.Mapping.{MapsTo, map-none, map-more, map-skip, map-done}
-use Rattle.meetings.proofs.Nexts.{pass-free, pass-fits}
+use Rattle.barriers.specs.Mapped.{Passable}
+use Rattle.barriers.proofs.Mapping.{MapsTo, map-none, map-more, map-skip, map-done}
+use Rattle.barriers.proofs.Nexts.{pass-free, pass-fits}
 use borrow.Author.Needs.{needs}
-use Rattle.meetings.proofs.next.pass_all.Statement.{statement}
-use Rattle.meetings.proofs.next.pass_all.Tie as tie
+use Rattle.barriers.proofs.next.pass_all.Statement.{statement}
+use Rattle.barriers.proofs.next.pass_all.Tie as tie
 
 abbrev Inv-loop : tie.InvT-loop
 Inv-loop state₀ i k₀ state k = (length state ≡ length state₀) × MapsTo Passable pass k state₀ state i

@@ -23,7 +23,7 @@ use Rattle.fields.specs.Lent.{Lent, Reads, Writes, ReadsAct, WritesAct, withAct
 use Rattle.moves.specs.Moves.{Standing, Turned, GoesOn}
 use Rattle.moves.proofs.Withs.{act-with, with-with}
 use Rattle.moves.proofs.Standings.{few, fault-here, asks, plain, calm, went, done}
-use Rattle.meetings.proofs.Reholds.{holds-here}
+use Rattle.barriers.proofs.Reholds.{holds-here}
 
 -- The activity anew, and then the count of clocks.
 act-clocks : (s : State) (i n : ℕ) → act (withClocks s n) i ≡ act s i

@@ -10,8 +10,8 @@ use Rattle.clocks.proofs.Searches.{found, passed, none}
 use Rattle.guards.specs.Exceeding.{isLast, someLast}
 use Rattle.fields.specs.Lent.{ReadsAct}
 use borrow.Author.Needs.{needs}
-use Rattle.meetings.proofs.next.some_last.Statement.{statement}
-use Rattle.meetings.proofs.next.some_last.Tie as tie
+use Rattle.barriers.proofs.next.some_last.Statement.{statement}
+use Rattle.barriers.proofs.next.some_last.Tie as tie
 
 abbrev Inv-loop : tie.InvT-loop
 Inv-loop state i k₀ k = (k ≤ 8) × ReadsAct (λ (a : Activity). someBelow k (λ n. isLast (hold a n))) state i false

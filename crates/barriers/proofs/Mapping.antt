@@ -13,7 +13,7 @@ use Rattle.rules.specs.declared.state.State.{State}
 use Rattle.rules.specs.State.{act, noHold, hold}
 use Rattle.rules.specs.Effects.{withHolds}
 use Rattle.fields.specs.Lent.{FineActivity, Lent, ReadsAct, WritesAct, withAct, withHold}
-use Rattle.meetings.specs.Mapped.{Maps}
+use Rattle.barriers.specs.Mapped.{Maps}
 use Rattle.moves.proofs.Withs.{act-with, with-with, with-same}
 
 -- The first k elements mapped.

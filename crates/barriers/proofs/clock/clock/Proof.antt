@@ -1,10 +1,10 @@
 -- F4, number 17 twice, and the clock.
 use mathlib.Core.Path.{sym, _∙_}
 use Rattle.moves.proofs.Standings.{over, spent}
-use Rattle.meetings.proofs.Clocking.{held-fault, full, clocked}
+use Rattle.barriers.proofs.Clocking.{held-fault, full, clocked}
 use borrow.Author.Needs.{needs}
-use Rattle.meetings.proofs.clock.clock.Statement.{statement}
-use Rattle.meetings.proofs.clock.clock.Tie as tie
+use Rattle.barriers.proofs.clock.clock.Statement.{statement}
+use Rattle.barriers.proofs.clock.clock.Tie as tie
 
 returns : tie.Need-returns
 returns c = λ h.

@@ -1,8 +1,8 @@
 -- Held, and in the last phase.
 use mathlib.Core.Path.{sym, _∙_}
 use borrow.Author.Needs.{needs}
-use Rattle.meetings.proofs.next.is_last.Statement.{statement}
-use Rattle.meetings.proofs.next.is_last.Tie as tie
+use Rattle.barriers.proofs.next.is_last.Statement.{statement}
+use Rattle.barriers.proofs.next.is_last.Tie as tie
 
 returns : tie.Need-returns
 returns c = rw (sym (c .before .before .is-held .ensures) ∙ c .before .if1 .taken)

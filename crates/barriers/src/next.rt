@@ -7,7 +7,7 @@ ghost use Rattle.rules.specs.Clocks.{quiesce, pass};
 ghost use Rattle.guards.specs.Exceeding.{isLast, someLast};
 ghost use Rattle.fields.specs.Lent.{ReadsAct};
 ghost use Rattle.moves.specs.Moves.{Turns};
-ghost use Rattle.meetings.specs.Mapped.{Maps, Any, Passable};
+ghost use Rattle.barriers.specs.Mapped.{Maps, Any, Passable};
 use fields::activities::put_status;
 use fields::activities::status_at;
 use fields::holds::hold_at;

@@ -1,10 +1,10 @@
 -- By the registration, and by the phase.
 use native.Mathlib.Omega.{arith}
 use mathlib.Core.Path.{sym, _∙_}
-use Rattle.meetings.proofs.Nexts.{pass-free}
+use Rattle.barriers.proofs.Nexts.{pass-free}
 use borrow.Author.Needs.{needs}
-use Rattle.meetings.proofs.next.passed.Statement.{statement}
-use Rattle.meetings.proofs.next.passed.Tie as tie
+use Rattle.barriers.proofs.next.passed.Statement.{statement}
+use Rattle.barriers.proofs.next.passed.Tie as tie
 
 returns : tie.Need-returns
 returns c = λ h. absurd (let z : ⊥ = omega (arith, rw (sym (c .before .before .before .is-held .ensures) ∙ c .before .before .if1 .taken) at h) in z)
