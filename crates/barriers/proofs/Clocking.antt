@@ -18,7 +18,7 @@ use Rattle.rules.specs.Clocks.{isHeld}
 use Rattle.rules.specs.Faults.{faultFor}
 use Rattle.rules.specs.Effects.{past, effectOf, applied, withStores}
 use Rattle.rules.specs.Steps.{base, fault, effect, exceeds}
-use Rattle.guards.specs.Exceeding.{overfull, exceedsAt}
+use Rattle.moves.specs.Exceeding.{overfull, exceedsAt}
 use Rattle.fields.specs.Lent.{Lent, Reads, Writes, ReadsAct, WritesAct, withAct, withHold, withSteps, withClocks}
 use Rattle.moves.specs.Moves.{Standing, Turned, GoesOn}
 use Rattle.moves.proofs.Withs.{act-with, with-with}

@@ -23,7 +23,7 @@ use Rattle.rules.specs.Effects.{withHolds, past, nextOf, effectOf}
 use Rattle.rules.specs.Steps.{base, effect, exceeds}
 use Rattle.rules.proofs.Tests.{true-false}
 use Rattle.rules.proofs.Search.{someBelow-none}
-use Rattle.guards.specs.Exceeding.{someLast, overfull, overtakes, exceedsAt}
+use Rattle.moves.specs.Exceeding.{someLast, overfull, overtakes, exceedsAt}
 use Rattle.fields.specs.Lent.{FineActivity, Lent, WritesAct, withAct, withStatus}
 use Rattle.moves.specs.Moves.{Standing, Turned, Counts, GoesOn}
 use Rattle.barriers.specs.Mapped.{Maps, Any, Passable}

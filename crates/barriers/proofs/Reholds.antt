@@ -17,7 +17,7 @@ use Rattle.rules.specs.Clocks.{isHeld, holds, quiesce}
 use Rattle.rules.specs.Faults.{faultFor}
 use Rattle.rules.specs.Effects.{past, effectOf}
 use Rattle.rules.specs.Steps.{fault}
-use Rattle.guards.specs.Exceeding.{overfull}
+use Rattle.moves.specs.Exceeding.{overfull}
 use Rattle.fields.specs.Lent.{Lent, ReadsAct, WritesAct, withAct, withHold, withSteps}
 use Rattle.moves.specs.Moves.{Standing, Turned, GoesOn}
 use Rattle.moves.proofs.Withs.{act-with, with-with, steps-with}

@@ -9,7 +9,7 @@ use Rattle.rules.specs.declared.state.Activity.{Activity}
 use Rattle.rules.specs.declared.state.State.{State}
 use Rattle.rules.specs.State.{act}
 use Rattle.rules.specs.Effects.{withHolds}
-use Rattle.guards.specs.Exceeding.{someLast}
+use Rattle.moves.specs.Exceeding.{someLast}
 use Rattle.fields.specs.Lent.{Lent, withAct}
 
 -- Each hold of activity i is changed alike, where something is known of the activity.

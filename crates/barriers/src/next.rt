@@ -4,7 +4,7 @@ ghost use Rattle.program.specs.declared.command.Command.the-variants.{Next};
 ghost use Prim.Native.Nat.{_≤_};
 ghost use Rattle.rules.specs.declared.state.Activity.{Activity};
 ghost use Rattle.rules.specs.Clocks.{quiesce, pass};
-ghost use Rattle.guards.specs.Exceeding.{isLast, someLast};
+ghost use Rattle.moves.specs.Exceeding.{isLast, someLast};
 ghost use Rattle.fields.specs.Lent.{ReadsAct};
 ghost use Rattle.moves.specs.Moves.{Turns};
 ghost use Rattle.barriers.specs.Mapped.{Maps, Any, Passable};

@@ -23,9 +23,9 @@ use Rattle.rules.specs.Faults.{faultFor}
 use Rattle.rules.specs.Effects.{alone, stopped, withTop, past, again, popped, endOf, effectOf}
 use Rattle.rules.proofs.WellFormedStack.{Ran, byFinish, byRepeat, ran-going, Stack}
 use Rattle.rules.proofs.WellFormedFacts.{facts}
-use Rattle.guards.specs.Known.{Known}
-use Rattle.guards.specs.Exceeding.{overfull}
-use Rattle.guards.proofs.Places.{next-is, next-small}
+use Rattle.places.specs.Known.{Known}
+use Rattle.moves.specs.Exceeding.{overfull}
+use Rattle.places.proofs.Places.{next-is, next-small}
 use Rattle.fields.specs.Lent.{Lent, ReadsAct, WritesAct, withAct, withSteps, withFrame, withDepth, onward}
 use Rattle.moves.specs.Moves.{Standing, Turned, Counts, GoesOn}
 use Rattle.bodies.specs.Pops.{lower, Pops}

@@ -20,9 +20,9 @@ use Rattle.rules.specs.Tree.{here, isFinish, finishes, inOwnFinish}
 use Rattle.rules.specs.WellFormed.{isPlaced}
 use Rattle.rules.specs.Faults.{bit, lendsUnheld, lendsQuiesced, asyncFault}
 use Rattle.rules.proofs.Search.{someBelow-intro}
-use Rattle.clocks.proofs.Searches.{found, passed, none}
-use Rattle.guards.specs.Known.{Known}
-use Rattle.guards.specs.Stack.{Stacked}
+use Rattle.places.proofs.Searches.{found, passed, none}
+use Rattle.places.specs.Known.{Known}
+use Rattle.places.specs.Stack.{Stacked}
 use Rattle.fields.specs.Lent.{Lent, ReadsAct}
 use Rattle.bodies.specs.Lends.{ReadsIn, lendFault}
 

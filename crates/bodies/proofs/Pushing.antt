@@ -14,7 +14,7 @@ use Rattle.rules.specs.declared.state.State.{State}
 use Rattle.rules.specs.State.{act}
 use Rattle.rules.specs.Faults.{faultFor}
 use Rattle.rules.specs.Effects.{alone, past, pushed, repeatOf, effectOf}
-use Rattle.guards.specs.Exceeding.{overfull}
+use Rattle.moves.specs.Exceeding.{overfull}
 use Rattle.fields.specs.Lent.{Lent, Reads, ReadsAct, WritesAct, withAct, withFrame, withDepth}
 use Rattle.moves.specs.Moves.{Standing, Turned, Counts, GoesOn}
 use Rattle.bodies.specs.Pushes.{Pushes}

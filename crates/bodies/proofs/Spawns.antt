@@ -21,9 +21,9 @@ use Rattle.rules.specs.Faults.{lendsUnheld, lendsQuiesced, asyncFault, faultFor
 use Rattle.rules.specs.Effects.{stopped, withRegister, child, spawning, past, effectOf, withStores, applied}
 use Rattle.rules.specs.Steps.{base, at, fault, effect, exceeds}
 use Rattle.rules.proofs.Turn.{turn}
-use Rattle.guards.specs.Known.{Known}
-use Rattle.guards.specs.Exceeding.{overfull, exceedsAt}
-use Rattle.guards.proofs.Facing.{stack-of}
+use Rattle.places.specs.Known.{Known}
+use Rattle.moves.specs.Exceeding.{overfull, exceedsAt}
+use Rattle.places.proofs.Facing.{stack-of}
 use Rattle.fields.specs.Lent.{Lent, Writes, WritesAct, withAct, withSteps, withActivities, withSpawner, withFrame, withDepth}
 use Rattle.moves.specs.Moves.{Standing, Turned, GoesOn}
 use Rattle.bodies.specs.Lends.{ReadsIn}

@@ -8,8 +8,8 @@ use Rattle.rules.specs.declared.state.Activity.{Activity}
 use Rattle.rules.specs.declared.state.State.{State}
 use Rattle.rules.specs.State.{act}
 use Rattle.rules.specs.Faults.{lendsUnheld, lendsQuiesced}
-use Rattle.guards.specs.Known.{Known}
-use Rattle.guards.specs.Stack.{Stacked}
+use Rattle.places.specs.Known.{Known}
+use Rattle.places.specs.Stack.{Stacked}
 use Rattle.fields.specs.Lent.{Lent}
 
 -- What is read is what activity i, that has a stack, has by an accepted table.

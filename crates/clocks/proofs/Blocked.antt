@@ -16,7 +16,7 @@ use Rattle.rules.specs.Waiting.{behindOf}
 use Rattle.rules.proofs.Tests.{true-false, decide}
 use Rattle.rules.proofs.Search.{someBelow-witness, someBelow-intro}
 use Rattle.clocks.specs.Made.{made}
-use Rattle.clocks.proofs.Searches.{both, someBelow-swap}
+use Rattle.places.proofs.Searches.{both, someBelow-swap}
 
 -- The clock under name k has a holder that is behind.
 abbrev pub blocked : State → Activity → ℕ → Bool

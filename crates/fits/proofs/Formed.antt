@@ -28,7 +28,7 @@ use Rattle.rules.proofs.WellFormedFacts.{ActivityFacts, Facts, facts}
 use Rattle.rules.proofs.WellFormedHolds as holds
 use Rattle.rules.proofs.WellFormedStack.{Ran, byFinish, byRepeat, Stack, Stacked, level}
 use Rattle.encoding.proofs.Fits.{FitsFrame, FitsHold, FitsActivity, FitsState}
-use Rattle.guards.proofs.Places.{body-small, offset-small}
+use Rattle.places.proofs.Places.{body-small, offset-small}
 use Rattle.fits.proofs.Operands.{narrow-here}
 use Rattle.fits.proofs.Small.{Small}
 

@@ -17,7 +17,7 @@ use Rattle.program.proofs.ShapeReading.{read-as}
 use Rattle.rules.specs.declared.state.Frame.{Frame}
 use Rattle.rules.specs.Tree.{here}
 use Rattle.rules.specs.WellFormed.{isPlaced}
-use Rattle.guards.proofs.Places.{read-here}
+use Rattle.places.proofs.Places.{read-here}
 
 -- What the bytes bound.
 pub record Narrow (c : Command) : Type 0 where

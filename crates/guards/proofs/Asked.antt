@@ -16,8 +16,8 @@ use Rattle.rules.specs.State.{top, isAtBarrier}
 use Rattle.rules.specs.Tree.{inFinishBody}
 use Rattle.rules.specs.Waiting.{behindOf, unendedBelow, unendedInside, waitsFor, waitsAt}
 use Rattle.rules.proofs.Tests.{true-false}
-use Rattle.guards.specs.Facing.{Asks}
-use Rattle.guards.proofs.Facing.{some-alike, nobody-waited}
+use Rattle.places.specs.Facing.{Asks}
+use Rattle.places.proofs.Facing.{some-alike, nobody-waited}
 
 -- Whom the activity waits for at the command of a byte.
 unfoldable waitsBy : Program → State → ℕ → Activity → ℕ → ℕ → Bool

@@ -1,9 +1,4 @@
-pub mod Places
-pub mod Stacks
-pub mod Chains
-pub mod Facing
 pub mod Reading
 pub mod Asked
 pub mod Views
-pub mod Exceeding
 pub mod Readies

@@ -22,7 +22,7 @@ use Rattle.parts.specs.Shared.{whole}
 use Rattle.parts.specs.declared.shared.Shared.{Shared}
 use Rattle.guards.specs.Views.{Viewed}
 use Rattle.guards.specs.declared.look.Seen.{Seen}
-use Rattle.guards.proofs.Facing.{over, faults-first, waited}
+use Rattle.places.proofs.Facing.{over, faults-first, waited}
 
 module _ {p : Program} {accs : List Accumulator} {e : Shared} {i : ℕ} {a : Activity} {seen : Seen} {waits : Bool} {acts : List Activity} (d : Viewed p accs e i a seen waits acts) where
   -- An activity with a number has ended.

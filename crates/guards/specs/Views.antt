@@ -17,13 +17,8 @@ use Rattle.rules.specs.Waiting.{waitsAt}
 use Rattle.rules.specs.Effects.{envOf}
 use Rattle.parts.specs.Shared.{whole}
 use Rattle.parts.specs.declared.shared.Shared.{Shared}
-use Rattle.guards.specs.Known.{Known}
+use Rattle.places.specs.Known.{Known}
 use Rattle.guards.specs.declared.look.Seen.{Seen}
-
--- An accepted table and a well-formed state.
-pub record Fit (t : List ℕ) (starts : List ℕ) (s : State) : Type 0 where
-  pub known : Known t starts
-  pub formed : wellFormed 65535 (programOf t) s ≡ true
 
 -- What a look at activity i, which is a, finds beside these accumulators: number 15, or its fault and its command, the value that READ reads, and whether it may
 -- wait for someone.

@@ -9,7 +9,7 @@ ghost use Rattle.rules.specs.State.{noHold};
 ghost use Rattle.rules.specs.Clocks.{isHeld};
 ghost use Rattle.rules.specs.Tree.{finishes, inOwnFinish};
 ghost use Rattle.rules.specs.Faults.{asyncFault};
-ghost use Rattle.guards.specs.Facing.{Firm};
+ghost use Rattle.places.specs.Facing.{Firm};
 ghost use Rattle.guards.specs.Met.{ReadFault, FaultFor};
 use super::place::command_at;
 use super::place::frame_at;

@@ -4,7 +4,7 @@ ghost use mathlib.Core.Bool.{_||_, _&&_};
 ghost use lib.Dec.{leb, eqb};
 ghost use Rattle.rules.specs.Search.{someBelow};
 ghost use Rattle.rules.specs.Waiting.{unendedInside};
-ghost use Rattle.guards.specs.Facing.{Rooted};
+ghost use Rattle.places.specs.Facing.{Rooted};
 use parts::checks::is_ended;
 use rules::state::State;
 

@@ -1,7 +1,7 @@
 // Number 17: what a step would need more than there is.
 ghost use mathlib.Core.Path.{_≡_};
 ghost use Rattle.parts.specs.Shared.{lone};
-ghost use Rattle.guards.specs.Exceeding.{overfull, isLast, someLast, exceedsAt};
+ghost use Rattle.moves.specs.Exceeding.{overfull, isLast, someLast, exceedsAt};
 use parts::checks::is_at_barrier;
 use parts::checks::is_held;
 use parts::shared::Shared;

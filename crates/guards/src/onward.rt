@@ -6,7 +6,7 @@ ghost use lib.Dec.{ltb};
 ghost use Rattle.program.specs.Bodies.{programOf};
 ghost use Rattle.rules.specs.State.{frame, top};
 ghost use Rattle.rules.specs.Tree.{nextOffset};
-ghost use Rattle.guards.specs.Facing.{Firm, Facing, Next};
+ghost use Rattle.places.specs.Facing.{Firm, Facing, Next};
 use super::place::command_at;
 use super::place::frame_at;
 use super::place::next_offset;

@@ -5,7 +5,7 @@ ghost use Rattle.program.specs.Bodies.{programOf};
 ghost use Rattle.rules.specs.State.{frame, top};
 ghost use Rattle.rules.specs.Tree.{here};
 ghost use Rattle.rules.specs.WellFormed.{isPlaced};
-ghost use Rattle.guards.specs.Known.{Known, Onward};
+ghost use Rattle.places.specs.Known.{Known, Onward};
 use parts::empty::no_frame;
 use program::command::Command;
 use program::command::held;

@@ -7,7 +7,7 @@ ghost use Rattle.rules.specs.Search.{someBelow};
 ghost use Rattle.rules.specs.State.{isAtBarrier};
 ghost use Rattle.rules.specs.Tree.{inFinishBody};
 ghost use Rattle.rules.specs.Waiting.{behindOf, unendedBelow, waitsAt};
-ghost use Rattle.guards.specs.Facing.{Firm, Rooted, Placed, Asks};
+ghost use Rattle.places.specs.Facing.{Firm, Rooted, Placed, Asks};
 use super::faults::finishes;
 use super::inside::someone_inside;
 use super::place::top_of;

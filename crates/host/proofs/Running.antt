@@ -11,7 +11,7 @@ use Rattle.program.specs.Count.{workOf}
 use Rattle.program.specs.Table.{workLimit, numberOf}
 use Rattle.rules.specs.declared.state.State.{State}
 use Rattle.rules.specs.Steps.{startState}
-use Rattle.guards.specs.Known.{Known}
+use Rattle.places.specs.Known.{Known}
 use Rattle.encoding.specs.Encode.{encodeState}
 use Rattle.fields.proofs.Start.{lent-start}
 use Rattle.turns.specs.Turns.{Follows}

@@ -21,8 +21,8 @@ use Rattle.rules.specs.Search.{bitsBelow}
 use Rattle.rules.specs.WellFormed.{wellFormed}
 use Rattle.rules.specs.Steps.{base, startState, stepped, unfit, startWith, start, stepWith, step, advance, canStep, ready, sheetOf, noSheet, registrations, registrationsNumber}
 use Rattle.rules.proofs.Tests.{decide}
-use Rattle.guards.specs.Known.{Known}
-use Rattle.guards.specs.Views.{Fit}
+use Rattle.places.specs.Known.{Known}
+use Rattle.places.specs.Known.{Fit}
 
 -- THE TABLE
 

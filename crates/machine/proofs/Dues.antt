@@ -20,16 +20,16 @@ use Rattle.rules.proofs.Tests.{true-false}
 use Rattle.rules.proofs.WellFormedFacts.{facts}
 use Rattle.parts.specs.Shared.{whole, lone}
 use Rattle.machine.specs.Change.{changed, Alters, IsChild}
-use Rattle.guards.specs.Exceeding.{overfull, exceedsAt}
+use Rattle.moves.specs.Exceeding.{overfull, exceedsAt}
 use Rattle.effects.specs.Accumulators.{accsAfter}
 use Rattle.guards.specs.Met.{Reads}
 use Rattle.machine.specs.Turn.{Turn, DueAt, TurnedAt}
 use Rattle.parts.specs.declared.shared.Shared.{Shared}
 use Rattle.machine.specs.declared.change.Change.{Change}
 use Rattle.guards.specs.declared.look.Seen.{Seen}
-use Rattle.guards.proofs.Facing.{fault-met}
+use Rattle.places.proofs.Facing.{fault-met}
 use Rattle.guards.proofs.Views.{runs, runs-own, stands, met, goes-here}
-use Rattle.guards.proofs.Exceeding.{exceeds-at, measured}
+use Rattle.moves.proofs.Exceeding.{exceeds-at, measured}
 use Rattle.machine.proofs.Performed.{within}
 
 -- Somebody whom a command spawns, if it does.

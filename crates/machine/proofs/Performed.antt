@@ -32,7 +32,7 @@ use Rattle.effects.specs.Share.{after, Roomy}
 use Rattle.effects.specs.Own.{Given}
 use Rattle.effects.specs.Accumulators.{writes, accsAfter}
 use Rattle.effects.proofs.Sharing.{written}
-use Rattle.guards.specs.Facing.{Facing, Next}
+use Rattle.places.specs.Facing.{Facing, Next}
 use Rattle.machine.specs.Change.{changing, changed, Alters, IsChild}
 use Rattle.machine.specs.Perform.{effectHere, Performing}
 use Rattle.machine.proofs.Storing.{sound, ranged}

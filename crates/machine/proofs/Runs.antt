@@ -17,7 +17,7 @@ use Rattle.rules.specs.Steps.{base, startState}
 use Rattle.rules.specs.Demand3.{AtEveryPoint}
 use Rattle.rules.specs.Runs.{runFrom, run}
 use Rattle.rules.proofs.Demand3.{good-start, good-run, run-start, answers-start, at-every-point}
-use Rattle.guards.specs.Known.{Known}
+use Rattle.places.specs.Known.{Known}
 use Rattle.turns.specs.Turns.{Followable, answeredFrom, Follows}
 use Rattle.program.proofs.Basic.{Bytes}
 use Rattle.encoding.specs.declared.Decoded.{Decoded}

@@ -24,7 +24,7 @@ use Rattle.rules.specs.Runs.{runFrom, answersFrom}
 use Rattle.rules.proofs.Tests.{decide}
 use Rattle.rules.proofs.StepLaws.{refusal-number}
 use Rattle.machine.specs.Ran.{answerBy}
-use Rattle.guards.specs.Views.{Fit}
+use Rattle.places.specs.Known.{Fit}
 use Rattle.turns.specs.Turns.{Followable, answeredFrom}
 use Rattle.machine.proofs.Turns.{turned-down, overflows, takes}
 

@@ -27,10 +27,10 @@ use Rattle.parts.specs.declared.shared.Shared.{Shared}
 use Rattle.effects.specs.Cells.{InRange, Agrees, cellIn, Follows, FollowsAll, FollowsIn}
 use Rattle.effects.specs.declared.cells.Touched.{Touched}
 use Rattle.effects.proofs.Storing.{agrees-first}
-use Rattle.guards.specs.Known.{On}
-use Rattle.guards.specs.Facing.{Facing}
+use Rattle.places.specs.Known.{On}
+use Rattle.places.specs.Facing.{Facing}
 use Rattle.guards.specs.Met.{Reads}
-use Rattle.guards.proofs.Places.{sound-here}
+use Rattle.places.proofs.Places.{sound-here}
 use Rattle.machine.specs.Perform.{effectHere, Touches}
 
 -- STANDING ON A COMMAND

@@ -26,9 +26,9 @@ use Rattle.machine.specs.Perform.{Performing, Performed}
 use Rattle.parts.specs.declared.shared.Shared.{Shared}
 use Rattle.machine.specs.declared.change.Change.{Change}
 use Rattle.machine.specs.Turn.{Turn, TakingAt}
-use Rattle.guards.specs.Facing.{Facing}
+use Rattle.places.specs.Facing.{Facing}
 use Rattle.guards.specs.declared.look.Seen.{Seen}
-use Rattle.guards.proofs.Facing.{facing}
+use Rattle.places.proofs.Facing.{facing}
 use Rattle.effects.specs.Accumulators.{accsAfter}
 
 -- NUMBERS

@@ -13,7 +13,8 @@ use Rattle.rules.specs.declared.state.State.{State}
 use Rattle.rules.specs.State.{answerNumber, act}
 use Rattle.rules.specs.Steps.{base, at, fault, effect, refusal, exceeds, advance}
 use Rattle.guards.specs.Met.{Reads}
-use Rattle.guards.specs.Views.{Fit, Viewed}
+use Rattle.places.specs.Known.{Fit}
+use Rattle.guards.specs.Views.{Viewed}
 use Rattle.parts.specs.Shared.{whole}
 use Rattle.effects.specs.Accumulators.{accsAfter}
 use Rattle.machine.specs.Change.{changed, Alters, IsChild}

@@ -4,7 +4,7 @@ ghost use Rattle.program.specs.Table.{workLimit};
 ghost use Rattle.rules.specs.declared.state.Status.the-variants.{Faulted};
 ghost use Rattle.rules.specs.State.{faultOf};
 ghost use Rattle.rules.specs.Effects.{failing};
-ghost use Rattle.guards.specs.Facing.{Facing};
+ghost use Rattle.places.specs.Facing.{Facing};
 ghost use Rattle.machine.specs.Change.{Does};
 ghost use Rattle.machine.specs.Perform.{Performed};
 use super::cells::touched;

@@ -4,3 +4,4 @@ pub mod Going
 pub mod Failing
 pub mod Reading
 pub mod Ranges
+pub mod Exceeding

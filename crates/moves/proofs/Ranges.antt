@@ -18,8 +18,8 @@ use Rattle.rules.specs.WellFormed.{isPlaced, wellFormed}
 use Rattle.rules.specs.Steps.{at}
 use Rattle.rules.proofs.Turn.{turn}
 use Rattle.rules.proofs.WellFormedFacts.{facts}
-use Rattle.guards.specs.Known.{Known}
-use Rattle.guards.proofs.Places.{sound-here}
+use Rattle.places.specs.Known.{Known}
+use Rattle.places.proofs.Places.{sound-here}
 use Rattle.moves.specs.Moves.{Standing}
 
 module _ {x : ℕ} where

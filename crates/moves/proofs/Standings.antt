@@ -32,9 +32,9 @@ use Rattle.rules.proofs.Tests.{true-false, decide}
 use Rattle.rules.proofs.Turn.{turn, effect-doing, effect-failed}
 use Rattle.rules.proofs.WellFormedStack.{stack-room}
 use Rattle.rules.proofs.WellFormedFacts.{Facts, ActivityFacts, facts}
-use Rattle.guards.specs.Exceeding.{overfull, overtakes, exceedsAt}
-use Rattle.guards.proofs.Places.{sound-here, next-is, next-small}
-use Rattle.guards.proofs.Exceeding.{measured, exceeds-at}
+use Rattle.moves.specs.Exceeding.{overfull, overtakes, exceedsAt}
+use Rattle.places.proofs.Places.{sound-here, next-is, next-small}
+use Rattle.moves.proofs.Exceeding.{measured, exceeds-at}
 use Rattle.fields.specs.Lent.{Lent, withAct, withSteps, onward}
 use Rattle.moves.specs.Moves.{Standing, Turned, GoesOn}
 

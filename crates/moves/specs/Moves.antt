@@ -16,7 +16,7 @@ use Rattle.rules.specs.Tree.{nextOffset}
 use Rattle.rules.specs.Faults.{readFault}
 use Rattle.rules.specs.Effects.{withTop, envOf}
 use Rattle.rules.specs.Steps.{base, at, fault, refusal, advance}
-use Rattle.guards.specs.Known.{Known}
+use Rattle.places.specs.Known.{Known}
 use Rattle.fields.specs.Lent.{Lent, withAct, withSteps, onward}
 
 -- Activity i of a well-formed state stands on a command and is not turned down; where the command after it stands; and room for one body more.

@@ -8,8 +8,8 @@ use Rattle.program.specs.Bodies.{programOf}
 use Rattle.program.proofs.LocatedBytes.{length-starts}
 use Rattle.rules.specs.declared.state.Frame.{Frame}
 use Rattle.rules.specs.WellFormed.{isPlaced}
-use Rattle.guards.specs.Known.{Known}
-use Rattle.guards.proofs.Places.{body-small, code-inside}
+use Rattle.places.specs.Known.{Known}
+use Rattle.places.proofs.Places.{body-small, code-inside}
 
 module _ {t starts : List ℕ} (f : Frame) (k : Known t starts) (on : isPlaced (programOf t) f ≡ true) where
   pub body-there : f .body < length starts

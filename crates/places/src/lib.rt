@@ -4,7 +4,7 @@ ghost use mathlib.Core.Bool.{true};
 ghost use Rattle.program.specs.Bodies.{programOf};
 ghost use Rattle.rules.specs.Tree.{here, isFinish};
 ghost use Rattle.rules.specs.WellFormed.{isPlaced};
-ghost use Rattle.guards.specs.Known.{Known};
+ghost use Rattle.places.specs.Known.{Known};
 use program::command::Command;
 use program::command::opcode;
 use program::command::wide;

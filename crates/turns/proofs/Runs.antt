@@ -13,7 +13,7 @@ use Rattle.rules.specs.State.{answerNumber}
 use Rattle.rules.specs.Steps.{base, stepWith, step, advance}
 use Rattle.rules.specs.Runs.{runFrom, answersFrom}
 use Rattle.rules.proofs.StepLaws.{fit}
-use Rattle.guards.specs.Views.{Fit}
+use Rattle.places.specs.Known.{Fit}
 use Rattle.turns.specs.Turns.{Followable, answeredFrom}
 
 -- ONE CALL MORE

@@ -21,7 +21,7 @@ use Rattle.rules.specs.WellFormed.{isPlaced, wellFormed}
 use Rattle.rules.specs.Steps.{base, at, waits, refusal, stepped, advance}
 use Rattle.rules.proofs.Turn.{turn-back}
 use Rattle.rules.proofs.WellFormedFacts.{Facts, ActivityFacts, facts}
-use Rattle.guards.specs.Known.{Known}
+use Rattle.places.specs.Known.{Known}
 use Rattle.fields.specs.Lent.{Lent, Reads, ReadsAct}
 use Rattle.moves.specs.Moves.{Turned, TurnsIn}
 use Rattle.moves.proofs.Standings.{standing}

@@ -12,7 +12,7 @@ use Rattle.rules.specs.State.{answerNumber}
 use Rattle.rules.specs.WellFormed.{wellFormed}
 use Rattle.rules.specs.Steps.{base}
 use Rattle.rules.specs.Runs.{runFrom, answersFrom}
-use Rattle.guards.specs.Known.{Known}
+use Rattle.places.specs.Known.{Known}
 use Rattle.fields.specs.Lent.{Lent}
 use Rattle.moves.specs.Moves.{Turned}
 

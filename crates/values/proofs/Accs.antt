@@ -17,7 +17,7 @@ use Rattle.rules.specs.State.{act, operatorOf}
 use Rattle.rules.specs.Faults.{faultFor}
 use Rattle.rules.specs.Effects.{newAccumulator, make, writing, past, effectOf, withStores, applied}
 use Rattle.rules.specs.Steps.{base, effect, exceeds}
-use Rattle.guards.specs.Exceeding.{overfull, exceedsAt}
+use Rattle.moves.specs.Exceeding.{overfull, exceedsAt}
 use Rattle.fields.specs.Lent.{Lent, Writes, WritesAct, withAct, withSteps, withAcc, withAccumulators, withName}
 use Rattle.moves.specs.Moves.{Standing, Turned, GoesOn}
 use Rattle.moves.proofs.Withs.{act-with, with-with}

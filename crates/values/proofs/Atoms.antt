@@ -29,9 +29,9 @@ use Rattle.rules.specs.Faults.{faultFor}
 use Rattle.rules.specs.Effects.{Touch, touch, touchAll, untouched, effectOf}
 use Rattle.rules.specs.Steps.{at}
 use Rattle.rules.proofs.WellFormedFacts.{facts}
-use Rattle.guards.specs.Known.{Known, On}
-use Rattle.guards.specs.Exceeding.{overfull}
-use Rattle.guards.proofs.Places.{sound-here, read-inner}
+use Rattle.places.specs.Known.{Known, On}
+use Rattle.moves.specs.Exceeding.{overfull}
+use Rattle.places.proofs.Places.{sound-here, read-inner}
 use Rattle.fields.specs.Lent.{Lent, ReadsAct}
 use Rattle.moves.specs.Moves.{Standing, Turned, GoesOn}
 use Rattle.moves.proofs.Standings.{few, some, shallow, spawned, fault-here}

@@ -16,7 +16,7 @@ use Rattle.rules.specs.State.{act, bound, accumulator}
 use Rattle.rules.specs.Faults.{faultFor}
 use Rattle.rules.specs.Effects.{reduce, withValue, withStores, past, effectOf, applied}
 use Rattle.rules.specs.Steps.{fault}
-use Rattle.guards.specs.Exceeding.{overfull}
+use Rattle.moves.specs.Exceeding.{overfull}
 use Rattle.fields.specs.Lent.{Lent, Reads, ReadsAct, Writes, withAct, withSteps, withAcc}
 use Rattle.moves.specs.Moves.{Standing, Turned, GoesOn}
 use Rattle.moves.proofs.Standings.{few, fault-here, bounds, plain, calm, went, done}

@@ -19,7 +19,7 @@ use Rattle.rules.specs.Clocks.{holdsSome}
 use Rattle.rules.specs.Faults.{Env, unbound, numberUnder, readFault, faultFor}
 use Rattle.rules.specs.Effects.{withRegister, withValue, past, effectOf, envOf, withStores, applied}
 use Rattle.rules.specs.Steps.{fault}
-use Rattle.guards.specs.Exceeding.{overfull}
+use Rattle.moves.specs.Exceeding.{overfull}
 use Rattle.fields.specs.Lent.{Lent, Reads, ReadsAct, Writes, WritesAct, withAct, withSteps, withAcc}
 use Rattle.moves.specs.Moves.{Standing, Turned, GoesOn, Fails, ReadFault}
 use Rattle.moves.proofs.Withs.{act-with, with-with, steps-with}

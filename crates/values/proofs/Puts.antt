@@ -13,7 +13,7 @@ use Rattle.rules.specs.declared.state.State.{State}
 use Rattle.rules.specs.State.{act}
 use Rattle.rules.specs.Faults.{faultFor}
 use Rattle.rules.specs.Effects.{withRegister, past, effectOf}
-use Rattle.guards.specs.Exceeding.{overfull}
+use Rattle.moves.specs.Exceeding.{overfull}
 use Rattle.fields.specs.Lent.{Lent, WritesAct, withAct}
 use Rattle.moves.specs.Moves.{Standing, Turned, GoesOn}
 use Rattle.moves.proofs.Withs.{act-with, with-with, steps-with}

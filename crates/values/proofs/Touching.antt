@@ -18,7 +18,7 @@ use Rattle.rules.specs.State.{act, absent}
 use Rattle.rules.specs.Faults.{faultFor}
 use Rattle.rules.specs.Effects.{Stored, Touch, withRegister, cellAfter, withStores, touch, untouched, past, touching, effectOf, envOf, applied}
 use Rattle.rules.specs.Steps.{at, fault}
-use Rattle.guards.specs.Exceeding.{overfull}
+use Rattle.moves.specs.Exceeding.{overfull}
 use Rattle.fields.specs.Lent.{Lent, Reads, ReadsAct, Writes, WritesAct, withAct, withSteps, withCell}
 use Rattle.moves.specs.Moves.{Standing, Turned, GoesOn}
 use Rattle.moves.proofs.Standings.{few, fault-here, plain, calm, went, done}

@@ -15,7 +15,7 @@ use Rattle.rules.specs.declared.state.State.{State}
 use Rattle.rules.specs.State.{act}
 use Rattle.rules.specs.Tree.{here}
 use Rattle.rules.specs.Effects.{Touch, withRegister, withStores, touch, touchAll}
-use Rattle.guards.specs.Known.{Known, On}
+use Rattle.places.specs.Known.{Known, On}
 use Rattle.fields.specs.Lent.{Lent}
 
 abbrev pub cellIn : State → ℕ → ℕ

@@ -3,7 +3,7 @@ use Prim.Native.Nat.{ℕ, _+_, _-_, _*_, _^_, _≤_, _<_}
 use native.Mathlib.Omega.{arith}
 use mathlib.Core.Path.{_≡_, refl, sym, ap, _∙_}
 use mathlib.Core.List.{List, [], _∷_, _++_, append-assoc}
-use mathlib.Core.Bool.{Bool, true, false}
+use mathlib.Core.Bool.{Bool, true, false, _&&_}
 use lib.ListN.{length, getD, take, drop}
 use lib.Seq.{take-at, drop-at}
 use lib.Dec.{eqb}
@@ -15,15 +15,29 @@ use Rattle.rules.specs.declared.state.Activity.{Activity}
 use Rattle.rules.specs.declared.state.State.{State}
 use Rattle.rules.specs.Search.{someBelow}
 use Rattle.rules.specs.State.{registrationNumber, noHold, act, hold}
-use Rattle.rules.specs.Clocks.{isHeld, isLive, isBehind, behind}
-use Rattle.clocks.proofs.Searches.{found, passed, none}
-use Rattle.clocks.proofs.Blocked.{blocked, blocked-free, blocked-some}
+use Rattle.rules.specs.Clocks.{isHeld, isLive, isBehind, holds, behind}
+use Rattle.rules.specs.Waiting.{behindOf}
+use Rattle.places.proofs.Searches.{found, passed, none, someBelow-swap}
 use Rattle.encoding.specs.Bytes.{bytesOf, part, encodeEach}
 use Rattle.encoding.specs.Encode.{statusByte, faultByte, encodeHold, encodeFrame, encodeActivity}
 use Rattle.fields.specs.Lent.{FineActivity, Lent, Reads, ReadsAct}
 use Rattle.fields.proofs.Within.{each-length, part-inside, lent-part}
 use Rattle.fields.proofs.Stands.{hold-length, own-part, mine}
 use Rattle.waits.specs.Waits.{BehindIn, BehindOne, Behind}
+
+-- OWN CLOCKS FIRST
+
+-- The clock under name k has a holder that is behind.
+abbrev blocked : State → Activity → ℕ → Bool
+blocked s a k = holds a k && someBelow (s .activities) (behind s (hold a k .clock) (hold a k .phase))
+
+module _ (s : State) (a : Activity) where
+  blocked-free : (k : ℕ) → holds a k ≡ false → false ≡ blocked s a k
+  blocked-free k e = rw e
+
+  blocked-some : someBelow 8 (blocked s a) ≡ someBelow (s .activities) (behindOf s a)
+  unfolding behindOf
+  blocked-some = someBelow-swap (s .activities) 8 (holds a) (λ k. behind s (hold a k .clock) (hold a k .phase))
 
 -- REGISTRATIONS BY THEIR NUMBER
 

@@ -26,11 +26,11 @@ use Rattle.rules.specs.Effects.{envOf}
 use Rattle.rules.specs.Waiting.{behindOf, unendedBelow, unendedInside, waitsFor, waitsAt}
 use Rattle.rules.specs.Steps.{at, fault, waits}
 use Rattle.rules.proofs.WellFormedFacts.{Facts, facts}
-use Rattle.guards.specs.Known.{Known}
-use Rattle.guards.specs.Facing.{Placed}
-use Rattle.guards.specs.Views.{Fit}
-use Rattle.guards.proofs.Chains.{unended-below}
-use Rattle.guards.proofs.Facing.{nobody-waited, guard-shut, guard-open, placed, rooted}
+use Rattle.places.specs.Known.{Known}
+use Rattle.places.specs.Facing.{Placed}
+use Rattle.places.specs.Known.{Fit}
+use Rattle.places.proofs.Chains.{unended-below}
+use Rattle.places.proofs.Facing.{nobody-waited, guard-shut, guard-open, placed, rooted}
 use Rattle.fields.specs.Lent.{Lent, ReadsAct}
 use Rattle.moves.proofs.Ranges.{read-small, reset-small, ranged-at}
 use Rattle.moves.specs.Moves.{ReadFault}

@@ -20,8 +20,8 @@ use Rattle.rules.specs.Waiting.{behindOf, unendedBelow, unendedInside, waitsAt}
 use Rattle.rules.specs.Steps.{at, waits}
 use Rattle.encoding.specs.Bytes.{encodeEach}
 use Rattle.encoding.specs.Encode.{encodeHold}
-use Rattle.guards.specs.Known.{Known}
-use Rattle.guards.specs.Facing.{Rooted, Placed}
+use Rattle.places.specs.Known.{Known}
+use Rattle.places.specs.Facing.{Rooted, Placed}
 use Rattle.fields.specs.Lent.{FineActivity, Lent}
 
 -- PASSING

@@ -1,3 +1,4 @@
 pub mod Loops
 pub mod Laws
 pub mod Numbers
+pub mod PassLaws

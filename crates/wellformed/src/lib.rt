@@ -3,6 +3,8 @@ ghost use mathlib.Core.Path.{_≡_};
 ghost use Rattle.program.specs.Bodies.{programOf};
 ghost use Rattle.program.specs.Table.{workLimit, numberOf, tableOf};
 ghost use Rattle.rules.specs.Steps.{base, unfit};
+ghost use Rattle.wellformed.specs.Passing.{unfitBytes};
+use lent::state_passes;
 use program::places::places;
 use program::table::Table;
 use program::table::read_table;
@@ -15,6 +17,7 @@ mod clocks; // clocks.rt: the clock names of an activity
 mod unused; // unused.rt: activities that were not spawned
 mod activity; // activity.rt: activities that were spawned
 mod whole; // whole.rt: the whole state
+mod lent; // lent.rt: the bytes of a state
 
 // The number 1 to 13 for which a table or a state is turned down, or 0; and the table as it was read.
 pub struct Checked {
@@ -38,6 +41,33 @@ pub fn check(table: &[u8], s: State) -> Checked
     let layout = read.layout;
     let work = read.work;
     if well_formed(table, layout, &marks, work, s) {
+        return Checked {
+            number: 0,
+            table: read,
+        };
+    }
+    Checked {
+        number: 13,
+        table: read,
+    }
+}
+
+// The same of a state in its bytes: 13 too where they encode none.
+pub fn check_state(table: &[u8], state: &[u8]) -> Checked
+    ensures { λ r. ⌜ (r .number ≡ unfitBytes (numberOf workLimit (now (table .entry))) (programOf (now (table .entry))) (now (state .entry))) × (r .table ≡ tableOf workLimit (now (table .entry))) ⌝ }
+{
+    let read = read_table(table);
+    let number = read.number;
+    if number != 0 {
+        return Checked {
+            number,
+            table: read,
+        };
+    }
+    let marks = places(table);
+    let layout = read.layout;
+    let work = read.work;
+    if state_passes(table, layout, &marks, work, state) {
         return Checked {
             number: 0,
             table: read,

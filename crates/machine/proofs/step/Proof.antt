@@ -9,8 +9,8 @@ use Rattle.rules.specs.declared.answer.Stepped.{Stepped}
 use Rattle.rules.specs.State.{answerNumber}
 use Rattle.rules.specs.Steps.{base, stepped, step, advance}
 use Rattle.clocks.proofs.Filled.{length-field}
-use Rattle.guards.specs.Views.{Fit}
-use Rattle.guards.proofs.Facing.{rooted, unspawned}
+use Rattle.places.specs.Known.{Fit}
+use Rattle.places.proofs.Facing.{rooted, unspawned}
 use Rattle.machine.proofs.Turns.{turned-down}
 use Rattle.machine.proofs.Calls.{number-none, accepted-read, work-read, work-small, fit-checked, step-unfit, step-fit}
 use Rattle.machine.proofs.Single.{single, one, one-state, one-answer}

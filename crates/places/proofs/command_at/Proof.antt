@@ -13,8 +13,8 @@ use Rattle.program.proofs.RangeLaws.{tail-part, whole-bare}
 use Rattle.rules.specs.declared.state.Frame.{Frame}
 use Rattle.rules.specs.Tree.{here}
 use Rattle.rules.specs.WellFormed.{isPlaced}
-use Rattle.guards.specs.Known.{Known}
-use Rattle.guards.proofs.Places.{read-here}
+use Rattle.places.specs.Known.{Known}
+use Rattle.places.proofs.Places.{read-here}
 use Rattle.places.proofs.Starts.{body-there, code-there}
 use borrow.Author.Needs.{needs}
 use Rattle.places.proofs.command_at.Statement.{statement}

@@ -6,8 +6,8 @@ use mathlib.Core.Bool.{false}
 use Rattle.rules.specs.declared.state.Activity.{Activity}
 use Rattle.rules.specs.Search.{someBelow}
 use Rattle.rules.specs.State.{act, hold}
-use Rattle.clocks.proofs.Searches.{found, passed, none}
-use Rattle.guards.specs.Exceeding.{isLast, someLast}
+use Rattle.places.proofs.Searches.{found, passed, none}
+use Rattle.moves.specs.Exceeding.{isLast, someLast}
 use Rattle.fields.specs.Lent.{ReadsAct}
 use borrow.Author.Needs.{needs}
 use Rattle.barriers.proofs.next.some_last.Statement.{statement}

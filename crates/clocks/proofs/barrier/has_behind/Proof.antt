@@ -8,7 +8,7 @@ use Rattle.rules.specs.declared.state.Activity.{Activity}
 use Rattle.rules.specs.Search.{someBelow}
 use Rattle.rules.specs.State.{hold}
 use Rattle.rules.specs.Clocks.{isBehind}
-use Rattle.clocks.proofs.Searches.{found, passed, none}
+use Rattle.places.proofs.Searches.{found, passed, none}
 use Rattle.clocks.proofs.barrier.has_behind.Statement.{statement}
 use Rattle.clocks.proofs.barrier.has_behind.Tie as tie
 

@@ -11,7 +11,7 @@ use Rattle.rules.specs.State.{hold}
 use Rattle.rules.specs.Clocks.{behind}
 use Rattle.clocks.specs.Made.{made}
 use Rattle.clocks.proofs.Filled.{length-field}
-use Rattle.clocks.proofs.Searches.{found, passed, none}
+use Rattle.places.proofs.Searches.{found, passed, none}
 use Rattle.clocks.proofs.Blocked.{made-within, blocked, blocked-held, blocked-free, blocked-some}
 use Rattle.clocks.proofs.barrier.someone_behind.Statement.{statement}
 use Rattle.clocks.proofs.barrier.someone_behind.Tie as tie

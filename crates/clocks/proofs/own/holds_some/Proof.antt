@@ -6,7 +6,7 @@ use mathlib.Core.Bool.{false}
 use borrow.Author.Needs.{needs}
 use Rattle.rules.specs.Search.{someBelow}
 use Rattle.rules.specs.Clocks.{holds, holdsSome}
-use Rattle.clocks.proofs.Searches.{found, passed, none}
+use Rattle.places.proofs.Searches.{found, passed, none}
 use Rattle.clocks.proofs.own.holds_some.Statement.{statement}
 use Rattle.clocks.proofs.own.holds_some.Tie as tie
 

@@ -9,7 +9,7 @@ use Rattle.rules.specs.Search.{someBelow}
 use Rattle.rules.specs.State.{hold}
 use Rattle.rules.specs.Faults.{lendsQuiesced}
 use Rattle.clocks.specs.Own.{lentQuiesced}
-use Rattle.clocks.proofs.Searches.{found, passed, none}
+use Rattle.places.proofs.Searches.{found, passed, none}
 use Rattle.clocks.proofs.own.lends_quiesced.Statement.{statement}
 use Rattle.clocks.proofs.own.lends_quiesced.Tie as tie
 

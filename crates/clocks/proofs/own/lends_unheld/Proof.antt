@@ -9,7 +9,7 @@ use Rattle.rules.specs.Search.{someBelow}
 use Rattle.rules.specs.State.{hold}
 use Rattle.rules.specs.Faults.{lendsUnheld}
 use Rattle.clocks.specs.Own.{lentUnheld}
-use Rattle.clocks.proofs.Searches.{found, passed, none}
+use Rattle.places.proofs.Searches.{found, passed, none}
 use Rattle.clocks.proofs.own.lends_unheld.Statement.{statement}
 use Rattle.clocks.proofs.own.lends_unheld.Tie as tie
 

@@ -6,8 +6,8 @@ use mathlib.Core.Bool.{false}
 use Rattle.program.specs.Bodies.{programOf}
 use Rattle.rules.specs.Search.{someBelow}
 use Rattle.rules.specs.Tree.{finishes, inOwnFinish}
-use Rattle.clocks.proofs.Searches.{found, passed, none}
-use Rattle.guards.specs.Facing.{Firm}
+use Rattle.places.proofs.Searches.{found, passed, none}
+use Rattle.places.specs.Facing.{Firm}
 use Rattle.guards.proofs.faults.in_own_finish.Statement.{statement}
 use Rattle.guards.proofs.faults.in_own_finish.Tie as tie
 

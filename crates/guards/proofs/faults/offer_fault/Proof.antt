@@ -1,5 +1,5 @@
 -- The entry under the name decides.
-use Rattle.guards.proofs.Facing.{unbound-name, bound-name}
+use Rattle.places.proofs.Facing.{unbound-name, bound-name}
 use borrow.Author.Needs.{needs}
 use Rattle.guards.proofs.faults.offer_fault.Statement.{statement}
 use Rattle.guards.proofs.faults.offer_fault.Tie as tie

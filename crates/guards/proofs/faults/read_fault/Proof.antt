@@ -3,7 +3,7 @@ use Prim.Native.Nat.{_-_}
 use mathlib.Core.Path.{sym, _∙_}
 use Rattle.rules.specs.Faults.{readFault}
 use Rattle.guards.specs.Met.{ReadFault}
-use Rattle.guards.proofs.Facing.{unbound-name, owner-read, others, while-held, may-read}
+use Rattle.places.proofs.Facing.{unbound-name, owner-read, others, while-held, may-read}
 use borrow.Author.Needs.{needs}
 use Rattle.guards.proofs.faults.read_fault.Statement.{statement}
 use Rattle.guards.proofs.faults.read_fault.Tie as tie

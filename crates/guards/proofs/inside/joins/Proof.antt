@@ -1,7 +1,7 @@
 -- Each answer is the definition's at the tests that led to it.
 use lib.Dec.{eqb, leb}
 use borrow.Author.Tests.{eq-eqb, ne-eqb}
-use Rattle.guards.proofs.Chains.{joins-above, joins-owner, joins-none}
+use Rattle.places.proofs.Chains.{joins-above, joins-owner, joins-none}
 use Rattle.guards.proofs.inside.joins.Statement.{statement}
 use Rattle.guards.proofs.inside.joins.Tie as tie
 

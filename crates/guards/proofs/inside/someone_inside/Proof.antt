@@ -7,8 +7,8 @@ use borrow.Author.Tests.{not-true, not-false}
 use Rattle.rules.specs.Tree.{inside}
 use Rattle.rules.specs.Waiting.{unendedInside}
 use native.Mathlib.Omega.{arith}
-use Rattle.guards.specs.Facing.{Rooted}
-use Rattle.guards.proofs.Chains.{Passed, passed-start, joined, passed-on, passed-hit, passed-ended, passed-outside, passed-end, none-above}
+use Rattle.places.specs.Facing.{Rooted}
+use Rattle.places.proofs.Chains.{Passed, passed-start, joined, passed-on, passed-hit, passed-ended, passed-outside, passed-end, none-above}
 use borrow.Author.Needs.{needs}
 use Rattle.guards.proofs.inside.someone_inside.Statement.{statement}
 use Rattle.guards.proofs.inside.someone_inside.Tie as tie

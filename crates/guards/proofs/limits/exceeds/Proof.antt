@@ -1,7 +1,7 @@
 -- Each way is the definition's at the tests that led to it.
 use mathlib.Core.Path.{sym, _∙_}
 use borrow.Author.Tests.{le-leb, lt-leb, eq-eqb, ne-eqb, not-true, not-false}
-use Rattle.guards.specs.Exceeding.{overtakes, exceedsAt}
+use Rattle.moves.specs.Exceeding.{overtakes, exceedsAt}
 use borrow.Author.Needs.{needs}
 use Rattle.guards.proofs.limits.exceeds.Statement.{statement}
 use Rattle.guards.proofs.limits.exceeds.Tie as tie

@@ -1,5 +1,5 @@
 -- The command's byte decides what is counted.
-use Rattle.guards.proofs.Exceeding.{full-activities, full-clocks, full-accumulators, full-none}
+use Rattle.moves.proofs.Exceeding.{full-activities, full-clocks, full-accumulators, full-none}
 use Rattle.parts.specs.Shared.{lone}
 use borrow.Author.Needs.{needs}
 use Rattle.guards.proofs.limits.overfull.Statement.{statement}

@@ -6,8 +6,8 @@ use mathlib.Core.Bool.{false}
 use lib.ListN.{getD}
 use Rattle.rules.specs.Search.{someBelow}
 use Rattle.rules.specs.State.{noHold}
-use Rattle.clocks.proofs.Searches.{found, passed, none}
-use Rattle.guards.specs.Exceeding.{isLast, someLast}
+use Rattle.places.proofs.Searches.{found, passed, none}
+use Rattle.moves.specs.Exceeding.{isLast, someLast}
 use Rattle.guards.proofs.limits.overtakes.Statement.{statement}
 use Rattle.guards.proofs.limits.overtakes.Tie as tie
 

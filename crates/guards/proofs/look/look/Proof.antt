@@ -5,9 +5,9 @@ use Rattle.program.specs.Bodies.{programOf}
 use Rattle.rules.specs.State.{top, isEnded}
 use Rattle.rules.specs.Tree.{here}
 use Rattle.rules.proofs.Tests.{true-false}
-use Rattle.guards.specs.Facing.{Able, Asks}
+use Rattle.places.specs.Facing.{Able, Asks}
 use Rattle.guards.specs.Met.{FaultFor, Reads}
-use Rattle.guards.proofs.Facing.{firm-able, top-stands}
+use Rattle.places.proofs.Facing.{firm-able, top-stands}
 use borrow.Author.Needs.{needs}
 use Rattle.guards.proofs.look.look.Statement.{statement}
 use Rattle.guards.proofs.look.look.Tie as tie

@@ -12,8 +12,9 @@ use Rattle.rules.specs.Steps.{canStep}
 use Rattle.rules.specs.Tree.{here}
 use Rattle.rules.specs.Waiting.{waitsAt}
 use Rattle.parts.specs.Shared.{sharedOf}
-use Rattle.guards.specs.Views.{Fit, Viewed}
-use Rattle.guards.proofs.Facing.{able, rooted, placed}
+use Rattle.places.specs.Known.{Fit}
+use Rattle.guards.specs.Views.{Viewed}
+use Rattle.places.proofs.Facing.{able, rooted, placed}
 use Rattle.guards.proofs.Views.{refusal-here, wait-asked, wait-unasked}
 use Rattle.guards.proofs.Readies.{bit-set, bit-left, none-after}
 use Rattle.guards.proofs.look.ready_set.Statement.{statement}

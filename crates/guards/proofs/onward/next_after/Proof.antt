@@ -1,7 +1,7 @@
 -- The frame at the top, or the one below it.
 use mathlib.Core.Path.{sym, _∙_}
 use Rattle.rules.proofs.Tests.{true-false}
-use Rattle.guards.proofs.Facing.{firm-facing, past-top}
+use Rattle.places.proofs.Facing.{firm-facing, past-top}
 use borrow.Author.Needs.{needs}
 use Rattle.guards.proofs.onward.next_after.Statement.{statement}
 use Rattle.guards.proofs.onward.next_after.Tie as tie

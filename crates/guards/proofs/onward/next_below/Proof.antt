@@ -3,7 +3,7 @@ use native.Mathlib.Omega.{arith}
 use mathlib.Core.Path.{sym, _∙_}
 use borrow.Author.Tests.{lt-ltb}
 use Rattle.rules.proofs.Tests.{true-false}
-use Rattle.guards.proofs.Facing.{past-below}
+use Rattle.places.proofs.Facing.{past-below}
 use borrow.Author.Needs.{needs}
 use Rattle.guards.proofs.onward.next_below.Statement.{statement}
 use Rattle.guards.proofs.onward.next_below.Tie as tie

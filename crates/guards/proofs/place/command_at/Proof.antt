@@ -14,8 +14,8 @@ use Rattle.program.proofs.RangeLaws.{tail-part}
 use Rattle.program.proofs.LocatedBytes.{length-starts}
 use Rattle.rules.specs.Tree.{here}
 use Rattle.rules.specs.WellFormed.{isPlaced}
-use Rattle.guards.specs.Known.{Known}
-use Rattle.guards.proofs.Places.{body-small, code-inside, read-here, not-whole}
+use Rattle.places.specs.Known.{Known}
+use Rattle.places.proofs.Places.{body-small, code-inside, read-here, not-whole}
 use borrow.Author.Needs.{needs}
 use Rattle.guards.proofs.place.command_at.Statement.{statement}
 use Rattle.guards.proofs.place.command_at.Tie as tie

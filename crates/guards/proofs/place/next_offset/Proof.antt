@@ -1,7 +1,7 @@
 -- The sum is the next offset, which is small.
 use native.Mathlib.Omega.{arith}
-use Rattle.guards.specs.Known.{Onward}
-use Rattle.guards.proofs.Places.{next-sum, next-low, width-small}
+use Rattle.places.specs.Known.{Onward}
+use Rattle.places.proofs.Places.{next-sum, next-low, width-small}
 use borrow.Author.Needs.{needs}
 use Rattle.guards.proofs.place.next_offset.Statement.{statement}
 use Rattle.guards.proofs.place.next_offset.Tie as tie

@@ -5,7 +5,7 @@ use Rattle.program.specs.Bodies.{programOf}
 use Rattle.program.specs.declared.command.Command.the-variants.{End}
 use Rattle.rules.specs.State.{top}
 use Rattle.rules.specs.Waiting.{unendedInside, waitsFor, waitsAt}
-use Rattle.guards.proofs.Facing.{firm-placed, guard-shut, guard-open}
+use Rattle.places.proofs.Facing.{firm-placed, guard-shut, guard-open}
 use borrow.Author.Needs.{needs}
 use Rattle.guards.proofs.waiting.end_waits.Statement.{statement}
 use Rattle.guards.proofs.waiting.end_waits.Tie as tie

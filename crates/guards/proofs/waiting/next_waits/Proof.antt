@@ -4,7 +4,7 @@ use mathlib.Core.Bool.{_&&_}
 use borrow.Author.Tests.{not-true, not-false}
 use Rattle.rules.specs.State.{isAtBarrier}
 use Rattle.rules.specs.Waiting.{behindOf}
-use Rattle.guards.proofs.Facing.{guard-shut, guard-open}
+use Rattle.places.proofs.Facing.{guard-shut, guard-open}
 use borrow.Author.Needs.{needs}
 use Rattle.guards.proofs.waiting.next_waits.Statement.{statement}
 use Rattle.guards.proofs.waiting.next_waits.Tie as tie

@@ -1,6 +1,6 @@
 -- A descendant is one inside from number 0 on.
 use mathlib.Core.Path.{sym, _∙_}
-use Rattle.guards.proofs.Chains.{unended-below}
+use Rattle.places.proofs.Chains.{unended-below}
 use borrow.Author.Needs.{needs}
 use Rattle.guards.proofs.waiting.read_waits.Statement.{statement}
 use Rattle.guards.proofs.waiting.read_waits.Tie as tie

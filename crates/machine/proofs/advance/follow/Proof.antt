@@ -13,12 +13,13 @@ use Rattle.rules.specs.Steps.{base, stepped, advance}
 use Rattle.rules.specs.Runs.{runFrom}
 use Rattle.parts.specs.Shared.{whole}
 use Rattle.rules.specs.declared.state.State.{State}
-use Rattle.guards.specs.Views.{Fit, Sees}
-use Rattle.guards.specs.Facing.{Placed}
+use Rattle.places.specs.Known.{Fit}
+use Rattle.guards.specs.Views.{Sees}
+use Rattle.places.specs.Facing.{Placed}
 use Rattle.machine.specs.Turn.{DueAt, Turned}
 use Rattle.turns.specs.Turns.{Followable, answeredFrom}
 use Rattle.parts.specs.declared.shared.Shared.{Shared}
-use Rattle.guards.proofs.Facing.{able, rooted, placed, unspawned}
+use Rattle.places.proofs.Facing.{able, rooted, placed, unspawned}
 use Rattle.machine.proofs.Turns.{turned-down}
 use Rattle.guards.proofs.Views.{wait-asked, wait-unasked}
 use Rattle.machine.proofs.Dues.{entered-one, entered-none, rewritten, unwritten, stored}

@@ -14,7 +14,7 @@ use Rattle.program.proofs.LocatedBytes.{length-starts}
 use Rattle.program.proofs.RangeLaws.{tail-part}
 use Rattle.rules.specs.Tree.{here}
 use Rattle.effects.specs.Cells.{FollowsIn, FollowsAll}
-use Rattle.guards.proofs.Places.{body-small, offset-small, code-inside, read-inner, not-whole}
+use Rattle.places.proofs.Places.{body-small, offset-small, code-inside, read-inner, not-whole}
 use Rattle.machine.proofs.Storing.{innerAt, inner-here, inner-length, inner-ranged, atom-width, atom-few, follows-none, follows-more, follows-end}
 use Rattle.machine.proofs.cells.touch_all.Statement.{statement}
 use Rattle.machine.proofs.cells.touch_all.Tie as tie

@@ -4,7 +4,7 @@ use mathlib.Core.Path.{sym, ap, _∙_}
 use lib.Dec.{eqb}
 use Rattle.effects.specs.Own.{OwnAfter}
 use Rattle.effects.specs.Share.{SharedAfter}
-use Rattle.guards.proofs.Exceeding.{spawns-by}
+use Rattle.moves.proofs.Exceeding.{spawns-by}
 use Rattle.machine.specs.Perform.{Performed}
 use Rattle.machine.proofs.Performed.{roomy, given, altered}
 use borrow.Author.Needs.{needs}

@@ -7,7 +7,7 @@ use Rattle.rules.specs.declared.state.Hold.{Hold}
 use Rattle.rules.specs.declared.state.Activity.{Activity}
 use Rattle.rules.specs.Search.{someBelow}
 use Rattle.rules.specs.State.{act}
-use Rattle.clocks.proofs.Searches.{found, passed, none}
+use Rattle.places.proofs.Searches.{found, passed, none}
 use Rattle.rules.specs.Clocks.{holds, isHeld, holdsSome}
 use Rattle.fields.specs.Lent.{ReadsAct}
 use borrow.Author.Needs.{needs}

@@ -12,8 +12,8 @@ use Rattle.rules.specs.declared.state.State.{State}
 use Rattle.rules.specs.State.{frame, top, isEnded}
 use Rattle.rules.specs.Tree.{here, nextOffset, spawnerOf}
 use Rattle.rules.specs.Waiting.{waitsAt}
-use Rattle.guards.specs.Known.{Known}
-use Rattle.guards.specs.Stack.{Stacked}
+use Rattle.places.specs.Known.{Known}
+use Rattle.places.specs.Stack.{Stacked}
 
 -- WHAT IS PRESUMED
 

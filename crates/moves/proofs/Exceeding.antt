@@ -30,9 +30,9 @@ use Rattle.rules.proofs.Lists.{Stored, new, old, stored}
 use Rattle.rules.proofs.WellFormedHolds.{Fits, under-map}
 use Rattle.rules.proofs.WellFormedFacts.{Facts}
 use Rattle.rules.proofs.Shapes.{Replaced, dropped, resumed, created, Reheld, kept, replaced, Kind, ends, meets, forks, opens, loops, moves, kind, isNext}
-use Rattle.clocks.proofs.Searches.{both}
-use Rattle.guards.proofs.Facing.{some-alike}
-use Rattle.guards.specs.Exceeding.{overfull, isLast, someLast, overtakes, exceedsAt}
+use Rattle.places.proofs.Searches.{both}
+use Rattle.places.proofs.Facing.{some-alike}
+use Rattle.moves.specs.Exceeding.{overfull, isLast, someLast, overtakes, exceedsAt}
 
 -- WHAT IS MADE
 

@@ -17,7 +17,7 @@ use Rattle.rules.specs.Tree.{spawnerOf, descends, inside}
 use Rattle.rules.specs.Waiting.{unendedBelow, unendedInside}
 use Rattle.rules.proofs.Tests.{decide, true-false, or-right}
 use Rattle.rules.proofs.Search.{someBelow-intro, someBelow-all, chain-above, chain-step}
-use Rattle.guards.specs.Facing.{Rooted}
+use Rattle.places.specs.Facing.{Rooted}
 
 -- Of the activities below x: the marks are of those inside, and none of these is unended.
 pub record Passed (s : State) (w first : ℕ) (marks : List Bool) (x : ℕ) : Type 0 where

@@ -16,7 +16,7 @@ use Rattle.rules.specs.Tree.{here}
 use Rattle.rules.specs.WellFormed.{runBy, isPlaced, isStacked, frameFits, stackFits}
 use Rattle.rules.proofs.Tests.{and-true}
 use Rattle.rules.proofs.Search.{allBelow-at}
-use Rattle.guards.specs.Stack.{Stacked}
+use Rattle.places.specs.Stack.{Stacked}
 
 -- END runs no body.
 run-goes : (made : ℕ) (c : Command) (f : Frame) → runBy made c f ≡ true → isEnd c ≡ false

@@ -28,7 +28,7 @@ use Rattle.program.proofs.LocatedBytes.{read-code, read-code-inner, start-insid
 use Rattle.rules.specs.declared.state.Frame.{Frame}
 use Rattle.rules.specs.Tree.{rest, here, nextOffset}
 use Rattle.rules.specs.WellFormed.{isPlaced}
-use Rattle.guards.specs.Known.{On}
+use Rattle.places.specs.Known.{On}
 
 -- A reading that is not whole.
 pub not-whole : {x : Command} {n : ℕ} (r : Reading) → types.Run.OneOf (1 ∷ 2 ∷ 3 ∷ []) (denote.Enum.Declared.tagOf Rattle.program.proofs.reading.Reading.the-type r) → r ≡ Whole x n → ⊥

@@ -27,11 +27,11 @@ use Rattle.rules.proofs.Tests.{true-false}
 use Rattle.rules.proofs.Search.{someBelow-all}
 use Rattle.rules.proofs.WellFormedStack.{stack-back}
 use Rattle.rules.proofs.WellFormedFacts.{ActivityFacts, Facts, facts}
-use Rattle.guards.specs.Known.{Onward}
-use Rattle.guards.specs.Stack.{Stacked}
-use Rattle.guards.specs.Facing.{Firm, Able, Facing, Rooted, Placed}
-use Rattle.guards.specs.Views.{Fit}
-use Rattle.guards.proofs.Stacks.{stacked}
+use Rattle.places.specs.Known.{Onward}
+use Rattle.places.specs.Stack.{Stacked}
+use Rattle.places.specs.Facing.{Firm, Able, Facing, Rooted, Placed}
+use Rattle.places.specs.Known.{Fit}
+use Rattle.places.proofs.Stacks.{stacked}
 
 -- WHERE AN ACTIVITY STANDS
 
