@@ -1,7 +1,4 @@
-pub mod Storing
-pub mod Performed
-pub mod Turns
-pub mod Dues
-pub mod Calls
+pub mod NumberLaws
+pub mod Typed
+pub mod Values
 pub mod Runs
-pub mod Single

@@ -1,4 +1,2 @@
-pub mod Change
-pub mod Perform
-pub mod Turn
 pub mod Ran
+pub mod Numbers

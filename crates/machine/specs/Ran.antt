@@ -1,15 +1,12 @@
 -- What a run promises: how it ended, the state after it, and the answers in the buffer.
 use Prim.Native.Nat.{ℕ}
 use mathlib.Core.List.{List, map, _++_}
-use mathlib.Core.Bool.{cond, _||_}
+use mathlib.Core.Bool.{cond}
 use mathlib.Core.Path.{_≡_}
 use lib.ListN.{length, drop}
 use lib.Dec.{leb, eqb}
 use Rattle.program.specs.Table.{workLimit, numberOf}
 use Rattle.rules.specs.declared.state.State.{State}
-use Rattle.rules.specs.declared.state.Status.{Status}
-use Rattle.rules.specs.declared.answer.Answer.{Answer}
-use Rattle.rules.specs.declared.answer.Answer.the-variants.{Accepted, Refused as Answer·Refused}
 use Rattle.rules.specs.declared.answer.Completion.{Completion}
 use Rattle.rules.specs.declared.answer.Completion.the-variants.{Done, Refused, Short}
 use Rattle.rules.specs.declared.answer.Ran.{Ran}
@@ -20,10 +17,6 @@ use Rattle.rules.specs.Demand3.{AtEveryPoint}
 
 abbrev ended : Completion → State → Ran
 ended completion s = record { completion = completion; state = s }
-
--- A step's answer from its number and the activity's status after it.
-unfoldable pub answerBy : ℕ → Status → Answer
-answerBy number status = cond (eqb number 0 || leb 100 number) (Accepted status) (Answer·Refused number)
 
 -- The table's number comes first, then whether the buffer has room for an answer to each step.
 unfoldable pub ranOf : List ℕ → List ℕ → ℕ → Ran

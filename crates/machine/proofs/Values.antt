@@ -1,0 +1,175 @@
+-- A call by value is the call in place on the bytes of the state.
+use Prim.Native.Nat.{ℕ, _+_, _≤_, _<_}
+use native.Mathlib.Omega.{arith}
+use mathlib.Core.Path.{_≡_, refl, sym, ap, _∙_}
+use mathlib.Core.List.{List}
+use mathlib.Core.Bool.{Bool, true, false, cond, _&&_}
+use lib.Dec.{eqb, ltb}
+use lib.ListN.{length, getD, set}
+use lib.Seq.{getD-set-same, getD-set-other}
+use borrow.Author.Tests.{lt-ltb, le-ltb, eq-eqb, ne-eqb}
+use Rattle.program.specs.Bodies.{programOf}
+use Rattle.program.specs.Table.{workLimit, numberOf}
+use Rattle.program.proofs.Basic.{Bytes}
+use Rattle.machine.proofs.NumberLaws.{number-small}
+use Rattle.rules.specs.declared.state.Status.{Status}
+use Rattle.rules.specs.declared.state.Status.the-variants.{Running, AtBarrier, Ended, Faulted}
+use Rattle.rules.specs.declared.state.Activity.{Activity}
+use Rattle.rules.specs.declared.state.State.{State}
+use Rattle.rules.specs.declared.answer.Answer.the-variants.{Accepted, Refused}
+use Rattle.rules.specs.declared.answer.Stepped.{Stepped}
+use Rattle.rules.specs.declared.answer.Ready.{Ready}
+use Rattle.rules.specs.State.{faultNumber, statusAnswer, answerNumber, absent, act}
+use Rattle.rules.specs.Effects.{Spawned, nobody, one, Effect, withSpawned, applied}
+use Rattle.rules.specs.WellFormed.{wellFormed}
+use Rattle.rules.specs.Steps.{base, effect, refusal, unfit, stepped, step, ready, noSheet, sheetOf, registrations, registrationsNumber}
+use Rattle.rules.proofs.Tests.{true-false, and-true, and-intro}
+use Rattle.rules.proofs.Turn.{turn}
+use Rattle.rules.proofs.WellFormedFacts.{facts}
+use Rattle.rules.proofs.StepLaws.{Outcome, unfits, refuses, overflows, takes, outcome, refusal-number}
+use Rattle.encoding.specs.declared.Decoded.{Decoded}
+use Rattle.encoding.specs.Encode.{encodeState}
+use Rattle.encoding.specs.Decode.{encodes, stateOf, decodedOf}
+use Rattle.encoding.proofs.StateLaws.{encodeState-encodes, stateOf-encodeState, encodeState-bytes}
+use Rattle.fits.proofs.Fitting.{Fitting, step-fits}
+use Rattle.fields.specs.Lent.{Lent, Reads, ReadsAct}
+use Rattle.wellformed.specs.Passing.{unfitBytes}
+use Rattle.calls.specs.Calls.{stepNumber, stepBytes, readyNumber, readySet}
+use Rattle.calls.proofs.Lending.{lent-state}
+use Rattle.calls.proofs.Stepping.{stepBytes-encode}
+use Rattle.machine.specs.Numbers.{isRefusal}
+
+-- THE BYTES OF A STATE
+
+module _ {s : State} (f : Fitting s) where
+  pub encoded : encodes (encodeState s) ≡ true
+  encoded = encodeState-encodes s (f .sized) (f .fits)
+
+  pub back : stateOf (encodeState s) ≡ s
+  back = stateOf-encodeState s (f .sized) (f .fits)
+
+  pub lent : Lent (encodeState s) s
+  lent = lent-state s (f .sized) (f .fits)
+
+  -- What they are decoded to.
+  pub decoded : {d : Decoded} {b : List ℕ} → d ≡ decodedOf b → b ≡ encodeState s → d .state ≡ s
+  unfolding decodedOf
+  decoded e q = rw (e, q, encoded) back
+
+  -- They go into bytes of the call's own.
+  pub own-bytes : {b c : List ℕ} → length b ≡ 13776 → c ≡ cond (eqb (length b) 13776) (encodeState s) b → c ≡ encodeState s
+  own-bytes {b} n e = e ∙ rw (eq-eqb (length b) 13776 n)
+
+-- THE STEP
+
+-- A number that turns a step down, and one that does not.
+refusal-is : (n : ℕ) → (n ≡ 0 → ⊥) → n ≤ 17 → isRefusal n ≡ true
+unfolding isRefusal
+refusal-is n h l = and-intro (ltb 0 n) (ltb n 100) (lt-is (omega arith)) (lt-is (omega arith))
+  where
+    lt-is : {x y : ℕ} → x < y → ltb x y ≡ true
+    lt-is {x} {y} k = lt-ltb x y k
+
+taken-is : (x : Status) → isRefusal (statusAnswer x) ≡ false
+unfolding isRefusal
+taken-is Running = refl
+taken-is AtBarrier = refl
+taken-is Ended = refl
+taken-is (Faulted f) = over (faultNumber f)
+  where
+    over : (n : ℕ) → ltb 0 (100 + n) && ltb (100 + n) 100 ≡ false
+    over n = rw (lt-ltb 0 (100 + n) (omega arith), le-ltb (100 + n) 100 (omega arith))
+
+unfit-small : (n : ℕ) (w x : Bool) → eqb n 0 ≡ x → n ≤ 12 → cond (eqb n 0) (cond w 0 13) n ≤ 17
+unfit-small n true true e l = rw e (omega arith)
+unfit-small n false true e l = rw e (omega arith)
+unfit-small n w false e l = rw e (omega arith)
+
+-- Its own entry is as the effect says.
+own-after : (s : State) (i : ℕ) (e : Effect) → length (s .acts) ≡ 64 → i < s .activities → s .activities ≤ 64 → act (applied s i e) i ≡ e .self
+unfolding applied
+own-after s i e n h m = go (e .spawned)
+  where
+    own : getD (set (s .acts) i (e .self)) i absent ≡ e .self
+    own = getD-set-same (s .acts) i (e .self) absent (omega arith)
+
+    go : (x : Spawned) → getD (withSpawned (s .activities) (set (s .acts) i (e .self)) x) i absent ≡ e .self
+    go nobody = own
+    go (one c) = getD-set-other (set (s .acts) i (e .self)) (s .activities) i c absent (λ q. omega arith) ∙ own
+
+module _ (t : List ℕ) {s : State} (f : Fitting s) (i : ℕ) {n : ℕ} {b c : List ℕ} (q : b ≡ encodeState s) (e : n ≡ stepNumber t b i) (g : c ≡ stepBytes t b i) where
+  number-is : n ≡ answerNumber (step base t s i .answer)
+  unfolding stepNumber
+  number-is = e ∙ rw (q, encoded f, back f)
+
+  bytes-are : c ≡ encodeState (step base t s i .state)
+  bytes-are =
+      g ∙ ap (λ (x : List ℕ). stepBytes t x i) q ∙ stepBytes-encode t (encodeState s) i (encodeState-bytes s (f .sized) (f .fits)) (encoded f)
+      ∙ ap (λ (x : State). encodeState (step base t x i .state)) (back f)
+
+  unfits-small : unfit base (numberOf workLimit t) (programOf t) s ≤ 17
+  unfolding unfit
+  unfits-small =
+      unfit-small (numberOf workLimit t) (wellFormed 65535 (programOf t) s) (eqb (numberOf workLimit t) 0) refl (number-small workLimit t)
+
+  -- It is turned down, and the state stays.
+  pub turned-down : isRefusal n ≡ true → stepped (Refused n) s ≡ step base t s i
+  turned-down h = go (outcome base t s i)
+    where
+      same : (m : ℕ) → step base t s i ≡ stepped (Refused m) s → stepped (Refused n) s ≡ step base t s i
+      same m d = let k : n ≡ m = number-is ∙ ap (λ (x : Stepped). answerNumber (x .answer)) d in rw k (sym d)
+
+      go : Outcome base t s i → stepped (Refused n) s ≡ step base t s i
+      go (unfits m a k d) = same m d
+      go (refuses m a k d) = same m d
+      go (overflows a x d) = same 17 d
+      go (takes a w r x d) =
+          let k : n ≡ statusAnswer (effect (programOf t) s i .self .status) = number-is ∙ ap (λ (y : Stepped). answerNumber (y .answer)) d in
+          absurd (true-false (isRefusal n) h (rw k (taken-is (effect (programOf t) s i .self .status))))
+
+  -- It is taken.
+  pub taken : {d : Decoded} {r : Status} → Bytes t → isRefusal n ≡ false → d ≡ decodedOf c → ReadsAct (λ (a : Activity). a .status) c i r
+      → stepped (Accepted r) (d .state) ≡ step base t s i
+  taken {d} {r} y h o m = go (outcome base t s i)
+    where
+      after : Fitting (step base t s i .state)
+      after = step-fits t y s f i
+
+      never : (k : ℕ) → (k ≡ 0 → ⊥) → k ≤ 17 → step base t s i ≡ stepped (Refused k) s → stepped (Accepted r) (d .state) ≡ step base t s i
+      never k z l w =
+          let v : n ≡ k = number-is ∙ ap (λ (x : Stepped). answerNumber (x .answer)) w in
+          absurd (true-false (isRefusal n) (rw v (refusal-is k z l)) h)
+
+      go : Outcome base t s i → stepped (Accepted r) (d .state) ≡ step base t s i
+      go (unfits k a z w) = never k z (rw (sym a) unfits-small) w
+      go (refuses k a z w) = never k z (rw (sym a) (refusal-number (programOf t) s i (λ x. z (sym a ∙ x)) .1)) w
+      go (overflows a x w) = never 17 (λ z. omega arith) (omega arith) w
+      go (takes a w z x v) =
+          let u = turn (programOf t) s i z .spawned in
+          let few = facts 65535 (programOf t) s w .acts64 in
+          let k : d .state ≡ step base t s i .state = decoded after o bytes-are in
+          let l : r ≡ act (step base t s i .state) i .status = m .reads (step base t s i .state) (rw bytes-are (lent after)) (omega arith) in
+          let o : act (step base t s i .state) i ≡ effect (programOf t) s i .self =
+              ap (λ (y : Stepped). act (y .state) i) v ∙ own-after s i (effect (programOf t) s i) (f .sized .acts64) u few in
+          rw (k, l, ap (λ (y : Activity). y .status) o, ap (λ (y : Stepped). y .state) v) (sym v)
+
+-- THE READY SET
+
+module _ (t : List ℕ) {s : State} (f : Fitting s) {b : List ℕ} (q : b ≡ encodeState s) where
+  pub ready-is : {n x : ℕ} → n ≡ readyNumber t b → x ≡ readySet t b → record { set = x; number = n } ≡ ready base t s
+  unfolding readyNumber readySet
+  ready-is e g = rw (e, g, q, encoded f, back f)
+
+  -- THE SHEET
+
+  pub sheet-number : {n : ℕ} → n ≡ unfitBytes (numberOf workLimit t) (programOf t) b → n ≡ registrationsNumber base t s
+  unfolding unfitBytes registrationsNumber
+  sheet-number e = e ∙ rw (q, encoded f, back f)
+
+  pub sheet-unfit : {n : ℕ} → n ≡ unfitBytes (numberOf workLimit t) (programOf t) b → (n ≡ 0 → ⊥) → noSheet ≡ registrations base t s
+  unfolding registrations
+  sheet-unfit e h = rw (sym (sheet-number e), ne-eqb _ 0 h)
+
+  pub sheet-fit : {n : ℕ} {r : List (List ℕ)} → n ≡ unfitBytes (numberOf workLimit t) (programOf t) b → n ≡ 0 → Reads sheetOf b r → r ≡ registrations base t s
+  unfolding registrations
+  sheet-fit e z m = m .reads s (rw q (lent f)) ∙ rw (sym (sheet-number e) ∙ z)
