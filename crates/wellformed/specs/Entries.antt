@@ -13,7 +13,7 @@ use Rattle.rules.specs.Search.{allBelow}
 use Rattle.rules.specs.State.{bound, noAccumulator}
 use Rattle.rules.specs.Clocks.{isHeld}
 use Rattle.rules.specs.WellFormed.{isNoHold, isNoAccumulator, stackFits, bodyFits, barrierFits, holdFits, namesFit, spawnerFits}
-use Rattle.wellformed.specs.declared.activity.Made.{Made}
+use Rattle.wellformed.specs.declared.made.Made.{Made}
 
 -- A hold: "phase is over its limit", "an unmade thing is named"; a free one is all 0.
 unfoldable pub holdIsFit : ℕ → ℕ → Hold → Bool

@@ -12,6 +12,7 @@ ghost use Rattle.wellformed.specs.Entries.{activityIsFit};
 use super::clocks::holds_fit;
 use super::clocks::holds_none;
 use super::clocks::names_fit;
+use super::made::Made;
 use super::place::command_at;
 use super::stack::stack_fits;
 use parts::checks::is_at_barrier;
@@ -23,13 +24,6 @@ use rules::state::Activity;
 
 // The byte of NEXT.
 const NEXT: usize = 1;
-
-// How many activities, clocks and accumulators were made.
-pub struct Made {
-    pub activities: u8,
-    pub clocks: u8,
-    pub accumulators: u8,
-}
 
 // An unended activity has a body, an ended one has no body and no clock.
 pub fn body_fits(a: Activity) -> bool

@@ -11,6 +11,7 @@ use program::table::read_table;
 use rules::state::State;
 use whole::well_formed;
 
+mod made; // made.rt: how many activities, clocks and accumulators were made
 mod place; // place.rt: the command that a frame stands on
 mod stack; // stack.rt: the stack of bodies of an activity
 mod clocks; // clocks.rt: the clock names of an activity

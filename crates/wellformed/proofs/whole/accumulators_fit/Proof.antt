@@ -6,7 +6,7 @@ use mathlib.Core.List.{List}
 use lib.ListN.{getD}
 use Rattle.rules.specs.declared.state.Accumulator.{Accumulator}
 use Rattle.rules.specs.State.{noAccumulator}
-use Rattle.wellformed.specs.declared.activity.Made.{Made}
+use Rattle.wellformed.specs.declared.made.Made.{Made}
 use Rattle.wellformed.specs.Entries.{accumulatorEntry, accumulatorEntries}
 use Rattle.wellformed.proofs.Loops.{Passed, none-yet, one-more, at-end, one-fails, holds-so, fails-so}
 use Rattle.wellformed.proofs.whole.accumulators_fit.Statement.{statement}

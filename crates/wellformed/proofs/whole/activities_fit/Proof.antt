@@ -10,7 +10,7 @@ use Rattle.program.specs.Bodies.{Program, programOf}
 use Rattle.rules.specs.declared.state.State.{State}
 use Rattle.rules.specs.State.{act}
 use Rattle.rules.specs.WellFormed.{activityFits, activitiesFit, isNoActivity}
-use Rattle.wellformed.specs.declared.activity.Made.{Made}
+use Rattle.wellformed.specs.declared.made.Made.{Made}
 use Rattle.wellformed.specs.Entries.{activityIsFit}
 use Rattle.wellformed.proofs.Loops.{Passed, none-yet, one-more, at-end, one-fails, holds-so, fails-so}
 use Rattle.wellformed.proofs.whole.activities_fit.Statement.{statement}

@@ -1,0 +1,3 @@
+pub mod ZeroLaws
+pub mod JoinLaws
+pub mod EntryLaws
