@@ -126,7 +126,7 @@ start-fits =
 -- THE STEP
 
 -- The entries past the end are small too.
-past-end : {A : Type 0} (P : A → Type 0) (n : ℕ) (l : List A) (d : A) → length l ≡ n → ((j : ℕ) → j < n → P (getD l j d)) → P d → (j : ℕ) → P (getD l j d)
+pub past-end : {A : Type 0} (P : A → Type 0) (n : ℕ) (l : List A) (d : A) → length l ≡ n → ((j : ℕ) → j < n → P (getD l j d)) → P d → (j : ℕ) → P (getD l j d)
 past-end P n [] d e f h j = h
 past-end P zero (x ∷ l) d e f h j = absurd (omega arith)
 past-end P (suc n) (x ∷ l) d e f h zero = f 0 (omega arith)

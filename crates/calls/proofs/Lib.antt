@@ -1,0 +1,6 @@
+pub mod Lending
+pub mod Checking
+pub mod Starting
+pub mod Stepping
+pub mod Running
+pub mod Encoded

@@ -1,0 +1,81 @@
+-- A run: turned down, without room, or followed from the start state.
+use Prim.Native.Nat.{ℕ, _≤_, _<_}
+use native.Mathlib.Omega.{arith}
+use mathlib.Core.Path.{_≡_, sym, _∙_}
+use mathlib.Core.List.{List}
+use mathlib.Core.Bool.{false, cond}
+use lib.ListN.{length, take}
+use lib.Dec.{eqb}
+use borrow.Author.Tests.{eq-eqb, ne-eqb, le-leb, lt-leb}
+use Rattle.program.specs.Bodies.{programOf}
+use Rattle.program.specs.Count.{workOf}
+use Rattle.program.specs.Table.{workLimit, numberOf}
+use Rattle.rules.specs.declared.state.State.{State}
+use Rattle.rules.specs.Steps.{base, startState}
+use Rattle.rules.proofs.Demand3.{good-start, good-run, run-start, answers-start}
+use Rattle.places.specs.Known.{Known}
+use Rattle.encoding.specs.Encode.{encodeState}
+use Rattle.fields.proofs.Start.{lent-start}
+use Rattle.turns.specs.Turns.{Followable, answeredFrom, Follows}
+use Rattle.calls.specs.Calls.{tableFirst, lengthNumber, fitsState, fitsRun, runNumber, runAnswers, runBytes}
+
+-- An order can be followed from the start of an accepted table: each state of a run is well-formed.
+pub from-start : (t order : List ℕ) {starts : List ℕ} {work room : ℕ} → numberOf workLimit t ≡ 0 → Known t starts → work ≡ workOf (programOf t) → work ≤ workLimit → length order ≤ room
+    → Followable t starts work startState order room
+from-start t order z known counted small room =
+    record {
+      known = known;
+      accepted = z;
+      counted = counted;
+      small = small;
+      formed = λ k h. good-run base t (omega arith) z (take k order) startState (good-start base t (omega arith) z) .fit;
+      fits = room;
+    }
+
+module _ (t order buffer b : List ℕ) where
+  -- What a call leaves: its number, the answers and the state's bytes.
+  abbrev pub Ends : ℕ → List ℕ → List ℕ → Type 0
+  Ends n filled after = (n ≡ runNumber t order (length buffer) b) × ((filled ≡ runAnswers t order buffer b) × (after ≡ runBytes t order (length buffer) b))
+
+  -- With a number, every byte stays.
+  kept : {n : ℕ} → n ≡ runNumber t order (length buffer) b → (n ≡ 0 → ⊥) → Ends n buffer b
+  unfolding runAnswers runBytes
+  kept {n} e h = let q = ne-eqb n 0 h in (e, (rw (sym e, q), rw (sym e, q)))
+
+  pub run-refused : {n : ℕ} → n ≡ numberOf workLimit t → (n ≡ 0 → ⊥) → Ends n buffer b
+  unfolding runNumber tableFirst
+  run-refused {n} e h = kept (rw (sym e, ne-eqb n 0 h)) h
+
+  module _ (z : numberOf workLimit t ≡ 0) where
+    unserved : fitsRun order (length buffer) b ≡ false → Ends lengthNumber buffer b
+    unfolding runNumber tableFirst
+    unserved q = kept (rw (z, q)) (λ e. omega arith)
+
+    -- The state's buffer has another length.
+    pub run-long : (length b ≡ 13776 → ⊥) → Ends lengthNumber buffer b
+    unfolding fitsRun fitsState
+    run-long h = unserved (rw (ne-eqb (length b) 13776 h))
+
+    module _ (l : length b ≡ 13776) where
+      -- The answers have too little room.
+      pub run-short : length buffer < length order → Ends lengthNumber buffer b
+      unfolding fitsRun fitsState
+      run-short h = unserved (rw (eq-eqb (length b) 13776 l, lt-leb (length order) (length buffer) h))
+
+      module _ (room : length order ≤ length buffer) where
+        number-done : 0 ≡ runNumber t order (length buffer) b
+        unfolding runNumber tableFirst fitsRun fitsState
+        number-done = rw (z, eq-eqb (length b) 13776 l, le-leb (length order) (length buffer) room)
+
+        pub run-followed : {starts begun filled after : List ℕ} {work : ℕ} {s : State} → Known t starts → work ≡ workOf (programOf t) → work ≤ workLimit → s ≡ startState
+            → begun ≡ cond (eqb (length b) 13776) (encodeState s) b → Follows t starts work order buffer filled begun after → Ends 0 filled after
+        unfolding runAnswers runBytes answeredFrom
+        run-followed {begun = begun} known counted small e f m =
+            let g : begun ≡ encodeState startState = f ∙ rw (eq-eqb (length b) 13776 l, e) in
+            let w = m .follows startState (lent-start g) (from-start t order z known counted small room) in (
+              number-done,
+              (
+                w .1 ∙ rw (sym number-done, answers-start base t (omega arith) z order),
+                w .0 .bytes ∙ rw (sym number-done, run-start base t (omega arith) z order),
+              ),
+            )

@@ -1,0 +1,71 @@
+// The machine's calls over lent bytes: a state is a buffer of 13,776 bytes, laid out as in docs/STATE-BYTES.md, and each call works in it.
+// The table's number 1 to 12 comes first; bytes that encode no state give 13; then a buffer of another length than the call needs gives 255.
+ghost use mathlib.Core.Path.{_≡_};
+ghost use lib.ListN.{length};
+ghost use Rattle.calls.specs.Calls.{startNumber, startBytes, stepNumber, stepBytes, runNumber, runAnswers, runBytes};
+use encoding::encode;
+use parts::empty::start_state;
+use parts::empty::zero_state;
+use program::table::read_table;
+use turns::follow::follow;
+use turns::turn;
+use wellformed::check_state;
+
+// What a buffer of another length than the call needs is answered with.
+const LENGTH: u8 = 255;
+
+// The start state of a table into the buffer, or the state of zeros for a table that is turned down.
+pub fn start(table: &[u8], state: &mut [u8]) -> u8
+    ensures { λ r. ⌜ (r ≡ startNumber (now (table .entry)) (now (state .entry))) × (now (state .exit) ≡ startBytes (now (table .entry)) (now (state .entry))) ⌝ }
+{
+    let read = read_table(table);
+    let number = read.number;
+    if number != 0 {
+        encode(zero_state(), state);
+        return number;
+    }
+    if state.len() != 13776 {
+        return LENGTH;
+    }
+    encode(start_state(), state);
+    0
+}
+
+// A step of the state in the buffer, by an activity that the host picks. A refused step leaves the bytes.
+pub fn step(table: &[u8], state: &mut [u8], activity: usize) -> u8
+    ensures { λ r. ⌜ (r ≡ stepNumber (now (table .entry)) (now (state .entry)) activity) × (now (state .exit) ≡ stepBytes (now (table .entry)) (now (state .entry)) activity) ⌝ }
+{
+    let checked = check_state(table, state);
+    let number = checked.number;
+    if number != 0 {
+        return number;
+    }
+    let known = checked.table;
+    let layout = known.layout;
+    let starts = layout.starts;
+    turn(table, &starts, known.work, state, activity)
+}
+
+// A whole run from the start state: an answer for each step of the order, and the state after it. A refused run leaves both buffers as they were.
+pub fn run(table: &[u8], order: &[u8], answers: &mut [u8], state: &mut [u8]) -> u8
+    ensures { λ r. ⌜ r ≡ runNumber (now (table .entry)) (now (order .entry)) (length (now (answers .entry))) (now (state .entry)) ⌝ }
+    ensures { λ _. ⌜ now (answers .exit) ≡ runAnswers (now (table .entry)) (now (order .entry)) (now (answers .entry)) (now (state .entry)) ⌝ }
+    ensures { λ _. ⌜ now (state .exit) ≡ runBytes (now (table .entry)) (now (order .entry)) (length (now (answers .entry))) (now (state .entry)) ⌝ }
+{
+    let read = read_table(table);
+    let number = read.number;
+    if number != 0 {
+        return number;
+    }
+    if state.len() != 13776 {
+        return LENGTH;
+    }
+    if answers.len() < order.len() {
+        return LENGTH;
+    }
+    let layout = read.layout;
+    let starts = layout.starts;
+    encode(start_state(), state);
+    follow(table, &starts, read.work, order, answers, state);
+    0
+}
