@@ -2,3 +2,4 @@ pub mod NumberLaws
 pub mod Typed
 pub mod Values
 pub mod Runs
+pub mod Sheets

@@ -25,7 +25,7 @@ use Rattle.calls.specs.Calls.{tableFirst, fitsState, fitsRun, runNumber, runAns
 use Rattle.machine.specs.Ran.{ranOf, answered, Runs}
 use Rattle.machine.proofs.Values.{decoded}
 
-module _ (t order before : List ℕ) {own after c : List ℕ} {n : ℕ} (long : length own ≡ 13776) (e : n ≡ runNumber t order (length before) own)
+module _ (t order before own : List ℕ) {after c : List ℕ} {n : ℕ} (long : length own ≡ 13776) (e : n ≡ runNumber t order (length before) own)
     (f : after ≡ runAnswers t order before own) (g : c ≡ runBytes t order (length before) own) where
   -- Demand 3 of an accepted table.
   demanded : numberOf workLimit t ≡ 0 → AtEveryPoint base t order
@@ -66,16 +66,17 @@ module _ (t order before : List ℕ) {own after c : List ℕ} {n : ℕ} (long : 
       go true a false b = absurd (h (by-room ∙ rw (a, b)))
       go false a y b = let z : n ≡ numberOf workLimit t = by-room ∙ rw a in record { result = rw (q, z, a); buffer = stays k ∙ rw a; demand = demanded }
 
+  -- Done, its own bytes are those of the run's state.
+  ran : {d : Decoded} → Bytes t → n ≡ 0 → d ≡ decodedOf c → d .state ≡ run base t order
+  unfolding runBytes
+  ran y z o = decoded (run-fits t y order) o (g ∙ rw (sym e ∙ z))
+
   pub done : {d : Decoded} → Bytes t → n ≡ 0 → d ≡ decodedOf c → Runs t order before after (record { completion = completion.Done; state = d .state })
-  unfolding ranOf answered
+  unfolding ranOf answered runAnswers
   done {d} y z o = go (eqb (numberOf workLimit t) 0) refl (leb (length order) (length before)) refl
     where
-      state-is : d .state ≡ run base t order
-      unfolding runBytes
-      state-is = decoded (run-fits t y order) o (g ∙ rw (sym e ∙ z))
-
       go : (x : Bool) → eqb (numberOf workLimit t) 0 ≡ x → (w : Bool) → leb (length order) (length before) ≡ w
           → Runs t order before after (record { completion = completion.Done; state = d .state })
-      go true a true b = record { result = rw (state-is, a, b); buffer = f ∙ rw (sym e ∙ z, a, b); demand = demanded }
+      go true a true b = record { result = rw (ran y z o, a, b); buffer = f ∙ rw (sym e ∙ z, a, b); demand = demanded }
       go true a false b = let k : _≡_ {A = ℕ} 0 255 = sym z ∙ by-room ∙ rw (a, b) in absurd (omega arith)
       go false a w b = absurd (true-false _ (eq-eqb (numberOf workLimit t) 0 (sym (by-room ∙ rw a) ∙ z)) a)

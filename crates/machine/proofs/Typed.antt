@@ -21,6 +21,7 @@ use Rattle.rules.proofs.state.Hold
 use Rattle.rules.proofs.state.Activity
 use Rattle.rules.proofs.state.Accumulator
 use Rattle.rules.proofs.state.State
+use Rattle.fits.proofs.Fitting.{Fitting}
 use Rattle.encoding.proofs.Fits.{FitsFrame, FitsHold, FitsAccumulator, FitsActivity, FitsState}
 
 -- Each entry of an array is what its type says.
@@ -72,7 +73,7 @@ activity-sized a vs p =
 
 -- So its bytes are those of no other state.
 module _ (s : State) (vs : List Val) (p : shadow (Rattle.rules.proofs.state.State.the-field .row .own (Rattle.rules.proofs.state.State.the-field .into s) vs)) where
-  pub state-fits : FitsState s
+  state-fits : FitsState s
   state-fits =
       let q = p .1 .1 in
       record {
@@ -85,7 +86,7 @@ module _ (s : State) (vs : List Val) (p : shadow (Rattle.rules.proofs.state.Sta
         acts = λ i h. let x = array-at Rattle.rules.proofs.state.Activity.the-field 64 (s .acts) _ (q .1 .0) i absent h in activity-typed _ _ (x .1);
       }
 
-  pub state-sized : Sized s
+  state-sized : Sized s
   state-sized =
       let q = p .1 .1 in
       record {
@@ -94,3 +95,6 @@ module _ (s : State) (vs : List Val) (p : shadow (Rattle.rules.proofs.state.Sta
         cells16 = array-long u32-field 16 (s .cells) _ (q .0);
         each = λ i h. let x = array-at Rattle.rules.proofs.state.Activity.the-field 64 (s .acts) _ (q .1 .0) i absent h in activity-sized _ _ (x .1);
       }
+
+  pub fitting : Fitting s
+  fitting = record { sized = state-sized; fits = state-fits }

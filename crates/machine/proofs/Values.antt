@@ -19,11 +19,11 @@ use Rattle.rules.specs.declared.state.State.{State}
 use Rattle.rules.specs.declared.answer.Answer.the-variants.{Accepted, Refused}
 use Rattle.rules.specs.declared.answer.Stepped.{Stepped}
 use Rattle.rules.specs.declared.answer.Ready.{Ready}
-use Rattle.rules.specs.State.{faultNumber, statusAnswer, answerNumber, absent, act}
+use Rattle.rules.specs.State.{zeroState, faultNumber, statusAnswer, answerNumber, absent, act}
 use Rattle.rules.specs.Effects.{Spawned, nobody, one, Effect, withSpawned, applied}
 use Rattle.rules.specs.WellFormed.{wellFormed}
-use Rattle.rules.specs.Steps.{base, effect, refusal, unfit, stepped, step, ready, noSheet, sheetOf, registrations, registrationsNumber}
-use Rattle.rules.proofs.Tests.{true-false, and-true, and-intro}
+use Rattle.rules.specs.Steps.{base, startState, startWith, start, effect, refusal, unfit, stepped, step, ready, noSheet, sheetOf, registrations, registrationsNumber}
+use Rattle.rules.proofs.Tests.{true-false}
 use Rattle.rules.proofs.Turn.{turn}
 use Rattle.rules.proofs.WellFormedFacts.{facts}
 use Rattle.rules.proofs.StepLaws.{Outcome, unfits, refuses, overflows, takes, outcome, refusal-number}
@@ -57,18 +57,34 @@ module _ {s : State} (f : Fitting s) where
   decoded e q = rw (e, q, encoded) back
 
   -- They go into bytes of the call's own.
-  pub own-bytes : {b c : List ℕ} → length b ≡ 13776 → c ≡ cond (eqb (length b) 13776) (encodeState s) b → c ≡ encodeState s
-  own-bytes {b} n e = e ∙ rw (eq-eqb (length b) 13776 n)
+  pub own-bytes : (b : List ℕ) {c : List ℕ} → length b ≡ 13776 → c ≡ cond (eqb (length b) 13776) (encodeState s) b → c ≡ encodeState s
+  own-bytes b n e = e ∙ rw (eq-eqb (length b) 13776 n)
+
+-- THE START
+
+pub start-refused : (t : List ℕ) {n : ℕ} → n ≡ numberOf workLimit t → (n ≡ 0 → ⊥) → stepped (Refused n) zeroState ≡ start base t
+unfolding start startWith
+start-refused t {n} e h = rw (sym e, ne-eqb n 0 h)
+
+pub start-accepted : (t : List ℕ) → numberOf workLimit t ≡ 0 → stepped (Accepted Running) startState ≡ start base t
+unfolding start startWith
+start-accepted t z = rw z
 
 -- THE STEP
+
+-- The test of a step's number.
+pub refuses-it : (n : ℕ) → 0 < n → {r : Bool} → r ≡ ltb n 100 → r ≡ isRefusal n
+unfolding isRefusal
+refuses-it n h e = e ∙ rw (lt-ltb 0 n h)
+
+pub refuses-none : (n : ℕ) → (0 < n → ⊥) → false ≡ isRefusal n
+unfolding isRefusal
+refuses-none n h = rw (le-ltb 0 n (omega arith))
 
 -- A number that turns a step down, and one that does not.
 refusal-is : (n : ℕ) → (n ≡ 0 → ⊥) → n ≤ 17 → isRefusal n ≡ true
 unfolding isRefusal
-refusal-is n h l = and-intro (ltb 0 n) (ltb n 100) (lt-is (omega arith)) (lt-is (omega arith))
-  where
-    lt-is : {x y : ℕ} → x < y → ltb x y ≡ true
-    lt-is {x} {y} k = lt-ltb x y k
+refusal-is n h l = rw (lt-ltb 0 n (omega arith), lt-ltb n 100 (omega arith))
 
 taken-is : (x : Status) → isRefusal (statusAnswer x) ≡ false
 unfolding isRefusal
@@ -141,8 +157,8 @@ module _ (t : List ℕ) {s : State} (f : Fitting s) (i : ℕ) {n : ℕ} {b c : L
           absurd (true-false (isRefusal n) (rw v (refusal-is k z l)) h)
 
       go : Outcome base t s i → stepped (Accepted r) (d .state) ≡ step base t s i
-      go (unfits k a z w) = never k z (rw (sym a) unfits-small) w
-      go (refuses k a z w) = never k z (rw (sym a) (refusal-number (programOf t) s i (λ x. z (sym a ∙ x)) .1)) w
+      go (unfits k a z w) = let l = unfits-small in never k z (omega arith) w
+      go (refuses k a z w) = let l = refusal-number (programOf t) s i (λ x. z (sym a ∙ x)) .1 in never k z (omega arith) w
       go (overflows a x w) = never 17 (λ z. omega arith) (omega arith) w
       go (takes a w z x v) =
           let u = turn (programOf t) s i z .spawned in

@@ -1,5 +1,7 @@
 -- The table's number decides.
-use Rattle.machine.proofs.Calls.{number-read, accepted-read, start-refused, start-accepted}
+use mathlib.Core.Path.{_∙_, sym}
+use Rattle.calls.proofs.Checking.{number-read}
+use Rattle.machine.proofs.Values.{start-refused, start-accepted}
 use borrow.Author.Needs.{needs}
 use Rattle.machine.proofs.start.Statement.{statement}
 use Rattle.machine.proofs.start.Tie as tie
@@ -21,7 +23,7 @@ start-state-requires c κs = search needs
 returns-2 : tie.Need-returns-2
 returns-2 c =
     let t = c .before .before .before .before .before .args .table .now in
-    rw (c .start-state .ensures) (start-accepted t (accepted-read t (c .before .before .before .read-table .ensures) (c .before .if1 .left)))
+    rw (c .start-state .ensures) (start-accepted t (sym (number-read t (c .before .before .before .read-table .ensures)) ∙ c .before .if1 .left))
 
 pub start-spec : {M : Type 1} → statement M
 start-spec =

@@ -1,4 +1,0 @@
-pub mod Filled
-pub mod Rows
-pub mod Blocked
-pub mod Entries

@@ -1,4 +1,0 @@
-pub mod Fill
-pub mod Own
-pub mod Made
-pub mod Sheet

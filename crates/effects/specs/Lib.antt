@@ -1,6 +1,0 @@
-pub mod Stack
-pub mod Becomes
-pub mod Own
-pub mod Cells
-pub mod Share
-pub mod Accumulators

@@ -1,4 +1,0 @@
-pub mod Reading
-pub mod Asked
-pub mod Views
-pub mod Readies
