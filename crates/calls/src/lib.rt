@@ -2,14 +2,17 @@
 // The table's number 1 to 12 comes first; bytes that encode no state give 13; then a buffer of another length than the call needs gives 255.
 ghost use mathlib.Core.Path.{_≡_};
 ghost use lib.ListN.{length};
-ghost use Rattle.calls.specs.Calls.{startNumber, startBytes, stepNumber, stepBytes, runNumber, runAnswers, runBytes};
+ghost use Rattle.calls.specs.Calls.{startNumber, startBytes, stepNumber, stepBytes, readyNumber, readySet, sheetNumber, sheetBytes, runNumber, runAnswers, runBytes};
 use encoding::encode;
 use parts::empty::start_state;
 use parts::empty::zero_state;
 use program::table::read_table;
 use turns::follow::follow;
+use turns::ready::ready_set;
 use turns::turn;
 use wellformed::check_state;
+
+mod sheet; // sheet.rt: the standing sheet as bytes
 
 // What a buffer of another length than the call needs is answered with.
 const LENGTH: u8 = 255;
@@ -44,6 +47,40 @@ pub fn step(table: &[u8], state: &mut [u8], activity: usize) -> u8
     let layout = known.layout;
     let starts = layout.starts;
     turn(table, &starts, known.work, state, activity)
+}
+
+// Who can step, bit i for activity i. The set of a refused call is 0.
+pub fn ready(table: &[u8], state: &[u8], set: &mut u64) -> u8
+    ensures { λ r. ⌜ (r ≡ readyNumber (now (table .entry)) (now (state .entry))) × (now (set .exit) ≡ readySet (now (table .entry)) (now (state .entry))) ⌝ }
+{
+    let checked = check_state(table, state);
+    let number = checked.number;
+    if number != 0 {
+        *set = 0;
+        return number;
+    }
+    let known = checked.table;
+    let layout = known.layout;
+    let starts = layout.starts;
+    *set = ready_set(table, &starts, state);
+    0
+}
+
+// The standing sheet of the state in the buffer, 1,024 bytes, row by row. The sheet of a refused call is zeros; another room for it stays as it was.
+pub fn registrations(table: &[u8], state: &[u8], sheet: &mut [u8]) -> u8
+    ensures { λ r. ⌜ (r ≡ sheetNumber (now (table .entry)) (now (state .entry)) (now (sheet .entry))) × (now (sheet .exit) ≡ sheetBytes (now (table .entry)) (now (state .entry)) (now (sheet .entry))) ⌝ }
+{
+    let checked = check_state(table, state);
+    let number = checked.number;
+    if number != 0 {
+        sheet::put_none(sheet);
+        return number;
+    }
+    if sheet.len() != 1024 {
+        return LENGTH;
+    }
+    sheet::put_rows(state, sheet);
+    0
 }
 
 // A whole run from the start state: an answer for each step of the order, and the state after it. A refused run leaves both buffers as they were.

@@ -22,43 +22,27 @@ use Rattle.rules.proofs.Tests.{and-true, and-intro, true-false}
 use Rattle.rules.proofs.Demand3.{demand3}
 use Rattle.encoding.specs.Encode.{encodeState}
 use Rattle.encoding.specs.Decode.{encodes, stateOf}
-use Rattle.encoding.proofs.StateLaws.{encodeState-encodes, encodeState-bytes, stateOf-encodeState}
 use Rattle.fits.proofs.Fitting.{Fitting, step-fits, start-call-fits, run-fits}
-use Rattle.host.specs.Calls.{fitsState, startNumber, startBytes, stepNumber, stepBytes, setAfter, readyNumber, readySet}
+use Rattle.calls.specs.Calls.{fitsState, startNumber, startBytes, stepNumber, stepBytes, readyNumber, readySet}
+use Rattle.calls.proofs.Encoded.{whole-of, back-to, step-number, step-bytes, ready-number, ready-set}
 use Rattle.host.specs.ByteRuns.{stepsBytes, stepsNumbers, pointBytes, answersBytes, FollowsRun, isFaultNumber, isTaken, isRunNumber, allRunNumbers, takenNumbers, someFaultNumber, Demand3Bytes, AtEveryPointBytes}
-use Rattle.host.proofs.Encoded.{stepBytes-encode}
 
 -- THE CALLS IN TURN
 
 module _ (t : List ℕ) (y : Bytes t) where
-  module _ (s : State) (f : Fitting s) where
-    -- The bytes of a state that fits, and a step over them.
-    whole-of : encodes (encodeState s) ≡ true
-    whole-of = encodeState-encodes s (f .sized) (f .fits)
-
-    back-to : stateOf (encodeState s) ≡ s
-    back-to = stateOf-encodeState s (f .sized) (f .fits)
-
-    step-bytes : (i : ℕ) → stepBytes t (encodeState s) i ≡ encodeState (step base t s i .state)
-    step-bytes i = rw back-to at (stepBytes-encode t (encodeState s) i (encodeState-bytes s (f .sized) (f .fits)) whole-of)
-
-    step-number : (i : ℕ) → stepNumber t (encodeState s) i ≡ answerNumber (step base t s i .answer)
-    unfolding stepNumber
-    step-number i = rw (whole-of, back-to)
-
   -- A step for each number.
   steps-bytes : (order : List ℕ) (s : State) → Fitting s → stepsBytes t (encodeState s) order ≡ encodeState (runFrom base t s order)
   unfolding stepsBytes runFrom
   steps-bytes [] s f = refl
-  steps-bytes (i ∷ order) s f = ap (λ b. stepsBytes t b order) (step-bytes s f i) ∙ steps-bytes order (step base t s i .state) (step-fits t y s f i)
+  steps-bytes (i ∷ order) s f = ap (λ b. stepsBytes t b order) (step-bytes t s f i) ∙ steps-bytes order (step base t s i .state) (step-fits t y s f i)
 
   steps-numbers : (order : List ℕ) (s : State) → Fitting s → stepsNumbers t (encodeState s) order ≡ map answerNumber (answersFrom base t s order)
   unfolding stepsNumbers answersFrom
   steps-numbers [] s f = refl
   steps-numbers (i ∷ order) s f =
-      ap (λ n. n ∷ stepsNumbers t (stepBytes t (encodeState s) i) order) (step-number s f i)
+      ap (λ n. n ∷ stepsNumbers t (stepBytes t (encodeState s) i) order) (step-number t s f i)
       ∙ ap (λ l. answerNumber (step base t s i .answer) ∷ l)
-      (ap (λ b. stepsNumbers t b order) (step-bytes s f i) ∙ steps-numbers order (step base t s i .state) (step-fits t y s f i))
+      (ap (λ b. stepsNumbers t b order) (step-bytes t s f i) ∙ steps-numbers order (step base t s i .state) (step-fits t y s f i))
 
   -- Whatever the table and the list: a buffer of a state's length.
   pub follows : (b : List ℕ) → length b ≡ 13776 → (order : List ℕ) → FollowsRun t b order
@@ -71,8 +55,8 @@ module _ (t : List ℕ) (y : Bytes t) where
         began = rw q;
         bytes = z;
         numbers = rw q (steps-numbers order (start base t .state) (start-call-fits t));
-        whole = ap encodes z ∙ whole-of (run base t order) f;
-        state = ap stateOf z ∙ back-to (run base t order) f;
+        whole = ap encodes z ∙ whole-of t (run base t order) f;
+        state = ap stateOf z ∙ back-to t (run base t order) f;
       }
 
 -- NUMBERS
@@ -160,17 +144,17 @@ module _ (t : List ℕ) (y : Bytes t) (ok : numberOf workLimit t ≡ 0) (b : Lis
     faults : someFaultNumber (answersBytes t b order) ≡ someFault (answers base t order)
     faults = rw (at .numbers) (fault-numbers (answers base t order) (demand .answered))
 
-    ready-given : readyNumber t (pointBytes t b order) ≡ 0
-    unfolding readyNumber
-    ready-given = rw (at .whole, at .state) (demand .fit)
+    fits : Fitting (run base t order)
+    fits = run-fits t y order
 
-    ready-there : (lent : ℕ) → readySet t (pointBytes t b order) lent ≡ ready base t (run base t order) .set
-    unfolding readySet setAfter
-    ready-there lent = rw (at .whole, at .state, demand .fit)
+    ready-given : readyNumber t (pointBytes t b order) ≡ 0
+    ready-given = ap (readyNumber t) (at .bytes) ∙ ready-number t (run base t order) fits ∙ demand .fit
+
+    ready-there : readySet t (pointBytes t b order) ≡ ready base t (run base t order) .set
+    ready-there = ap (readySet t) (at .bytes) ∙ ready-set t (run base t order) fits
 
     step-there : (i : ℕ) → stepNumber t (pointBytes t b order) i ≡ answerNumber (step base t (run base t order) i .answer)
-    unfolding stepNumber
-    step-there i = rw (at .whole, at .state)
+    step-there i = ap (λ c. stepNumber t c i) (at .bytes) ∙ step-number t (run base t order) fits i
 
   -- Demand 3, for an accepted table, a buffer of a state's length and any list.
   pub demand3-bytes : (order : List ℕ) → Demand3Bytes t b order
@@ -182,9 +166,9 @@ module _ (t : List ℕ) (y : Bytes t) (ok : numberOf workLimit t ≡ 0) (b : Lis
         answered = rw (at order .numbers) (all-numbers (answers base t order) (d .answered));
         counted = rw (s, counts order) (d .counted);
         fit = ready-given order;
-        alive = λ lent e. rw s (d .alive (sym (ready-there order lent) ∙ e));
-        over = λ lent e. ready-there order lent ∙ d .over (rw s at e);
-        steps = λ lent i e. rw (step-there order i) (accepted-number (step base t (run base t order) i .answer) (d .steps i (rw (ready-there order lent) at e)));
+        alive = λ e. rw s (d .alive (sym (ready-there order) ∙ e));
+        over = λ e. ready-there order ∙ d .over (rw s at e);
+        steps = λ i e. rw (step-there order i) (accepted-number (step base t (run base t order) i .answer) (d .steps i (rw (ready-there order) at e)));
         bounded = rw (counts order) (d .bounded);
         whole = λ e f. rw (counts order) (d .whole (rw s at e) (sym (faults order) ∙ f));
         less = λ e. rw (counts order) (d .less (sym (faults order) ∙ e));

@@ -15,7 +15,7 @@ use Rattle.rules.specs.Steps.{base, start}
 use Rattle.rules.specs.Runs.{run, answers, finished}
 use Rattle.encoding.specs.Encode.{encodeState}
 use Rattle.encoding.specs.Decode.{encodes, stateOf}
-use Rattle.host.specs.Calls.{startNumber, startBytes, stepNumber, stepBytes, readyNumber, readySet}
+use Rattle.calls.specs.Calls.{startNumber, startBytes, stepNumber, stepBytes, readyNumber, readySet}
 
 -- THE CALLS IN TURN
 
@@ -76,7 +76,7 @@ someFaultNumber (n ∷ more) = isFaultNumber n || someFaultNumber more
 abbrev pub point : List ℕ → List ℕ → List ℕ → State
 point t b order = stateOf (pointBytes t b order)
 
--- What holds after the list. A ready set is asked with some bits already in its place, `lent`.
+-- What holds after the list.
 pub record Demand3Bytes (t b order : List ℕ) : Type 0 where
   -- The start answers 0, each step as a step of a run. The state's steps taken are the accepted ones.
   pub started : startNumber t b ≡ 0
@@ -84,9 +84,9 @@ pub record Demand3Bytes (t b order : List ℕ) : Type 0 where
   pub counted : point t b order .steps ≡ takenNumbers (answersBytes t b order)
   -- The ready set is given, it is empty exactly when every spawned activity has ended, and a step of each activity in it is accepted.
   pub fit : readyNumber t (pointBytes t b order) ≡ 0
-  pub alive : (lent : ℕ) → readySet t (pointBytes t b order) lent ≡ 0 → finished (point t b order) ≡ true
-  pub over : (lent : ℕ) → finished (point t b order) ≡ true → readySet t (pointBytes t b order) lent ≡ 0
-  pub steps : (lent i : ℕ) → bit (readySet t (pointBytes t b order) lent) i ≡ true → isTaken (stepNumber t (pointBytes t b order) i) ≡ true
+  pub alive : readySet t (pointBytes t b order) ≡ 0 → finished (point t b order) ≡ true
+  pub over : finished (point t b order) ≡ true → readySet t (pointBytes t b order) ≡ 0
+  pub steps : (i : ℕ) → bit (readySet t (pointBytes t b order)) i ≡ true → isTaken (stepNumber t (pointBytes t b order) i) ≡ true
   -- No more steps are accepted than the table's work. All ended without a fault, they are exactly that; with a fault, less.
   pub bounded : takenNumbers (answersBytes t b order) ≤ workOf (programOf t)
   pub whole : finished (point t b order) ≡ true → someFaultNumber (answersBytes t b order) ≡ false → takenNumbers (answersBytes t b order) ≡ workOf (programOf t)

@@ -34,7 +34,7 @@ module _ {b : List ℕ} {rows : List (List ℕ)} {i : ℕ} (r : Rows b rows i) w
     where
       go : (s : State) → Lent b s → (j : ℕ) → j < i + 1 → Dec (i ≡ j) → getD (set rows i row) j [] ≡ rowOf (act s j .holds)
       go s l j k (yes e) = rw (← e) (getD-set-same rows i row [] (omega (arith, r .long)) ∙ m .reads s l h)
-      go s l j k (no n) = getD-set-other rows i j row [] n ∙ r .stand s l j (omega arith)
+      go s l j k (no n) = getD-set-other rows i j row [] (λ e. n (sym e)) ∙ r .stand s l j (omega arith)
 
   pub rows-all : 64 ≤ i → Reads sheetOf b rows
   rows-all h = record { reads = λ s l. sheet-rows s rows [] (r .long) (λ j k. r .stand s l j (omega arith)) }

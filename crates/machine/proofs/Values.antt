@@ -167,7 +167,9 @@ module _ (t : List ℕ) {s : State} (f : Fitting s) (i : ℕ) {n : ℕ} {b c : L
           let l : r ≡ act (step base t s i .state) i .status = m .reads (step base t s i .state) (rw bytes-are (lent after)) (omega arith) in
           let o : act (step base t s i .state) i ≡ effect (programOf t) s i .self =
               ap (λ (y : Stepped). act (y .state) i) v ∙ own-after s i (effect (programOf t) s i) (f .sized .acts64) u few in
-          rw (k, l, ap (λ (y : Activity). y .status) o, ap (λ (y : Stepped). y .state) v) (sym v)
+          ap (λ (x : State). stepped (Accepted r) x) (k ∙ ap (λ (y : Stepped). y .state) v)
+          ∙ ap (λ (x : Status). stepped (Accepted x) (applied s i (effect (programOf t) s i))) (l ∙ ap (λ (y : Activity). y .status) o)
+          ∙ sym v
 
 -- THE READY SET
 

@@ -67,6 +67,17 @@ pub fn step(table: &[u8], s: State, activity: usize) -> Stepped
     }
 }
 
+// Who can step: numbers 1 to 13.
+pub fn ready(table: &[u8], s: State) -> Ready
+    ensures { λ r. ⌜ r ≡ ready base (now (table .entry)) s ⌝ }
+{
+    let mut bytes = [0u8; 13776];
+    encode(s, &mut bytes);
+    let mut set: u64 = 0;
+    let number = calls::ready(table, &bytes, &mut set);
+    Ready { set, number }
+}
+
 // The standing sheet: numbers 1 to 13.
 pub fn registrations(table: &[u8], s: State, number: &mut u8) -> [[u8; 16]; 64]
     ensures { λ r. ⌜ (r ≡ registrations base (now (table .entry)) s) × (now (number .exit) ≡ registrationsNumber base (now (table .entry)) s) ⌝ }

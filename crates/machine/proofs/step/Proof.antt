@@ -1,9 +1,8 @@
 -- The step in bytes of the call's own: turned down, the state stays; taken, they are decoded.
+use Prim.Native.Nat.{ℕ}
 use native.Mathlib.Omega.{arith}
 use mathlib.Core.Path.{_≡_}
-use lib.ListN.{length-replicate}
-use Prim.Native.Nat.{ℕ}
-use Rattle.program.proofs.Basic.{Bytes}
+use lib.ListN.{replicate, length-replicate}
 use Rattle.encoding.specs.Encode.{encodeState}
 use Rattle.fits.proofs.Fitting.{Fitting}
 use Rattle.machine.proofs.Typed.{fitting}
@@ -12,64 +11,32 @@ use borrow.Author.Needs.{needs}
 use Rattle.machine.proofs.step.Statement.{statement}
 use Rattle.machine.proofs.step.Tie as tie
 
--- What is known of the parameters.
+-- Where the state was encoded, and its bytes.
 abbrev start : tie.After-encode → tie.Start
 start c = c .before .before .before
 
-fits : (c : tie.Start) → Fitting (c .args .s)
-fits c = fitting (c .args .s) _ (c .good .1 .0)
-
-known : (c : tie.After-shared-slice-known) → Bytes (c .before .args .table .now)
-known c = λ i. omega (arith, c .shared-slice-known .given i)
-
-slice-aggregate-encode : tie.Need-slice-aggregate-encode
-slice-aggregate-encode c = search needs
-
-encode-requires : tie.Need-encode-requires
-encode-requires c κs = search needs
-
-slice-aggregate-step : tie.Need-slice-aggregate-step
-slice-aggregate-step c = search needs
-
-step-requires : tie.Need-step-requires
-step-requires c κs = search needs
-
-is-refusal-requires : tie.Need-is-refusal-requires
-is-refusal-requires c κs = search needs
+fits : (c : tie.After-encode) → Fitting (start c .args .s)
+fits c = fitting (start c .args .s) _ (start c .good .1 .0)
 
 returns : tie.Need-returns
 returns c =
-    let from = c .before .before .before .before .before .before in
-    let at = start from in
-    turned-down (at .args .table .now) (fits at) (at .args .activity) ? ? ? ?
-
-slice-aggregate-status-at : tie.Need-slice-aggregate-status-at
-slice-aggregate-status-at c = search needs
-
-status-at-requires : tie.Need-status-at-requires
-status-at-requires c κs = search needs
-
-slice-aggregate-decode : tie.Need-slice-aggregate-decode
-slice-aggregate-decode c = search needs
-
-decode-requires : tie.Need-decode-requires
-decode-requires c κs = search needs
+    let d = c .before .before .before in
+    let e = d .before .before .before in
+    let a = start e .args in
+    turned-down (a .table .now) (fits e) (a .activity) (own-bytes (fits e) (replicate 13776 0) (length-replicate {A = ℕ} 13776 0) (e .encode .ensures)) (d .step .ensures .0) (d .step .ensures .1) ?
 
 returns-2 : tie.Need-returns-2
-returns-2 c = ?
+returns-2 c =
+    let l = c .before .before .before .before .before in
+    let d = l .before .before .before in
+    let e = d .before .before .before in
+    let a = start e .args in
+    taken (a .table .now) (fits e) (a .activity) (own-bytes (fits e) (replicate 13776 0) (length-replicate {A = ℕ} 13776 0) (e .encode .ensures)) (d .step .ensures .0) (d .step .ensures .1)
+    (λ i. omega (arith, e .before .before .shared-slice-known .given i)) ? (c .before .decode .ensures) (c .before .before .before .status-at .ensures)
 
 pub step-spec : {M : Type 1} → statement M
 step-spec =
     tie.close
-    (tie.spec
-    slice-aggregate-encode
-    encode-requires
-    slice-aggregate-step
-    step-requires
-    is-refusal-requires
-    returns
-    slice-aggregate-status-at
-    status-at-requires
-    slice-aggregate-decode
-    decode-requires
-    returns-2)
+    (tie.spec (λ slice-aggregate-encode. search needs) (λ encode-requires κs. search needs) (λ slice-aggregate-step. search needs) (λ step-requires κs. search needs)
+    (λ is-refusal-requires κs. search needs) returns (λ slice-aggregate-status-at. search needs) (λ status-at-requires κs. search needs)
+    (λ slice-aggregate-decode. search needs) (λ decode-requires κs. search needs) returns-2)

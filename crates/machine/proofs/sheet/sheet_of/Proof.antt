@@ -1,13 +1,7 @@
 -- Row after row: those below i stand.
-use Prim.Native.Nat.{ℕ, _+_, _-_, _≤_, _<_}
+use Prim.Native.Nat.{_-_}
 use native.Mathlib.Omega.{arith}
-use mathlib.Core.Path.{_≡_}
-use mathlib.Core.List.{List, []}
-use lib.ListN.{length, getD}
-use Rattle.rules.specs.declared.state.State.{State}
-use Rattle.rules.specs.State.{act}
-use Rattle.fields.specs.Lent.{Lent}
-use Rattle.turns.specs.Sheet.{rowOf}
+use mathlib.Core.Path.{refl}
 use borrow.Author.Needs.{needs}
 use Rattle.machine.proofs.Sheets.{Rows, rows-none, rows-more, rows-all}
 use Rattle.machine.proofs.sheet.sheet_of.Statement.{statement}
@@ -20,28 +14,28 @@ abbrev μ-loop : tie.MeasureT-loop
 μ-loop state rows₀ i₀ rows i = 64 - i
 
 loop-holds : tie.Need-loop-holds Inv-loop μ-loop
-loop-holds c = ?
+loop-holds c = rows-none refl
 
 sheet-row-requires : tie.Need-sheet-row-requires Inv-loop μ-loop
 sheet-row-requires c κs = search needs
 
 mul-rows : tie.Need-mul-rows Inv-loop μ-loop
-mul-rows c = ?
+mul-rows c = omega arith
 
 array-set-from-rows : tie.Need-array-set-from-rows Inv-loop μ-loop
-array-set-from-rows c = ?
+array-set-from-rows c = search needs
 
 add-i : tie.Need-add-i Inv-loop μ-loop
-add-i c = ?
+add-i c = omega arith
 
 loop-less : tie.Need-loop-less Inv-loop μ-loop
-loop-less c = ?
+loop-less c = omega arith
 
 loop-again : tie.Need-loop-again Inv-loop μ-loop
-loop-again c = ?
+loop-again c = rows-more (c .before .before .loop .inv) (c .before .in-loop) (c .sheet-row .ensures)
 
 returns : tie.Need-returns Inv-loop μ-loop
-returns c = ?
+returns c = rows-all (c .before .loop .inv) (c .after-loop)
 
 pub sheet-of-spec : {M : Type 1} → statement M
 sheet-of-spec =

@@ -5,8 +5,8 @@ use mathlib.Core.Path.{_≡_, refl, sym, _∙_}
 use lib.ListN.{length, take, length-set}
 use borrow.Author.Needs.{needs}
 use Rattle.encoding.proofs.NumberLaws.{copy-more, copy-done}
-use Rattle.host.proofs.sheet.put_row.Statement.{statement}
-use Rattle.host.proofs.sheet.put_row.Tie as tie
+use Rattle.calls.proofs.sheet.put_row.Statement.{statement}
+use Rattle.calls.proofs.sheet.put_row.Tie as tie
 
 abbrev Inv-loop : tie.InvT-loop
 Inv-loop out₀ row i₀ out i = (i ≤ 16) × (length out ≡ 16) × (take i out ≡ take i row)

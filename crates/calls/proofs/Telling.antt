@@ -1,0 +1,76 @@
+-- The ready set and the standing sheet: turned down by the check, or told of the lent bytes.
+use Prim.Native.Nat.{ℕ}
+use mathlib.Core.Path.{_≡_, refl, sym, _∙_}
+use mathlib.Core.List.{List}
+use mathlib.Core.Bool.{Bool, true, false, cond}
+use lib.ListN.{length, replicate}
+use borrow.Author.Tests.{eq-eqb, ne-eqb}
+use Rattle.program.specs.Bodies.{programOf}
+use Rattle.program.specs.Table.{workLimit, numberOf}
+use Rattle.program.proofs.Basic.{Bytes}
+use Rattle.rules.specs.Steps.{ready, noSheet, registrations, registrationsNumber}
+use Rattle.places.specs.Known.{Known}
+use Rattle.encoding.specs.Bytes.{encodeEach}
+use Rattle.encoding.specs.Decode.{encodes, stateOf}
+use Rattle.turns.specs.Turns.{Readies}
+use Rattle.wellformed.specs.Passing.{unfitBytes}
+use Rattle.calls.specs.Calls.{lengthNumber, readyNumber, readySet, rowBytes, fitsSheet, rowsNumber, sheetNumber, sheetBytes}
+use Rattle.calls.specs.Sheet.{Tells}
+use Rattle.calls.proofs.Lending.{lent-bytes}
+use Rattle.calls.proofs.Checking.{number-whole, number-none, passed}
+
+-- A sheet of zeros.
+none : encodeEach rowBytes noSheet ≡ replicate 1024 0
+unfolding encodeEach
+none = refl
+
+module _ (t b : List ℕ) {n : ℕ} (e : n ≡ unfitBytes (numberOf workLimit t) (programOf t) b) where
+  -- THE READY SET
+
+  pub ready-refused : (n ≡ 0 → ⊥) → (n ≡ readyNumber t b) × (0 ≡ readySet t b)
+  unfolding readyNumber readySet ready
+  ready-refused h = go (encodes b) refl
+    where
+      go : (x : Bool) → encodes b ≡ x → (n ≡ readyNumber t b) × (0 ≡ readySet t b)
+      go true w = let q = number-whole t b e w in (rw w q, rw (w, sym q, ne-eqb n 0 h))
+      go false w = (rw w (number-none t b e w), rw w)
+
+  pub ready-told : {starts : List ℕ} {r : ℕ} → n ≡ 0 → Bytes b → Known t starts → Readies t starts b r → (0 ≡ readyNumber t b) × (r ≡ readySet t b)
+  unfolding readyNumber readySet ready
+  ready-told z y known m =
+      let p = passed t b e z in
+      let q = sym (number-whole t b e (p .whole)) ∙ z in
+      (rw (p .whole, q), m .tells known (stateOf b) (lent-bytes b y (p .whole)) (p .formed) ∙ rw (p .whole, q))
+
+  -- THE SHEET
+
+  rows-number : n ≡ rowsNumber t b
+  unfolding rowsNumber registrationsNumber
+  rows-number = go (encodes b) refl
+    where
+      go : (x : Bool) → encodes b ≡ x → n ≡ rowsNumber t b
+      go true w = rw w (number-whole t b e w)
+      go false w = rw w (number-none t b e w)
+
+  module _ (sheet : List ℕ) where
+    pub sheet-refused : {c : List ℕ} → (n ≡ 0 → ⊥) → c ≡ cond (fitsSheet sheet) (replicate 1024 0) sheet → (n ≡ sheetNumber t b sheet) × (c ≡ sheetBytes t b sheet)
+    unfolding sheetNumber sheetBytes registrations registrationsNumber
+    sheet-refused {c} h f = (rw (sym rows-number, ne-eqb n 0 h), go (encodes b) refl)
+      where
+        go : (x : Bool) → encodes b ≡ x → c ≡ sheetBytes t b sheet
+        go true w = rw (w, sym (number-whole t b e w), ne-eqb n 0 h, none) f
+        go false w = rw w f
+
+    module _ (z : n ≡ 0) where
+      -- Another room.
+      pub sheet-long : (length sheet ≡ 1024 → ⊥) → (lengthNumber ≡ sheetNumber t b sheet) × (sheet ≡ sheetBytes t b sheet)
+      unfolding sheetNumber sheetBytes fitsSheet
+      sheet-long h = let q = ne-eqb (length sheet) 1024 h in (rw (sym rows-number, z, q), rw q)
+
+      pub sheet-told : {c : List ℕ} → Bytes b → length sheet ≡ 1024 → Tells b c → (0 ≡ sheetNumber t b sheet) × (c ≡ sheetBytes t b sheet)
+      unfolding sheetNumber sheetBytes fitsSheet registrations registrationsNumber
+      sheet-told y l m =
+          let p = passed t b e z in
+          let q = sym (number-whole t b e (p .whole)) ∙ z in
+          let f = eq-eqb (length sheet) 1024 l in
+          (rw (sym rows-number, z, f), m .tells (stateOf b) (lent-bytes b y (p .whole)) ∙ rw (f, p .whole, q))
