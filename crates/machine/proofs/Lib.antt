@@ -3,3 +3,4 @@ pub mod Typed
 pub mod Values
 pub mod Runs
 pub mod Sheets
+pub mod Singly

@@ -73,13 +73,13 @@ start-accepted t z = rw z
 -- THE STEP
 
 -- The test of a step's number.
-pub refuses-it : (n : ℕ) → 0 < n → {r : Bool} → r ≡ ltb n 100 → r ≡ isRefusal n
+pub tells-refusal : (n : ℕ) → 0 < n → ltb n 100 ≡ isRefusal n
 unfolding isRefusal
-refuses-it n h e = e ∙ rw (lt-ltb 0 n h)
+tells-refusal n h = rw (lt-ltb 0 n h)
 
-pub refuses-none : (n : ℕ) → (0 < n → ⊥) → false ≡ isRefusal n
+pub tells-none : (n : ℕ) → n ≤ 0 → ltb 0 n ≡ isRefusal n
 unfolding isRefusal
-refuses-none n h = rw (le-ltb 0 n (omega arith))
+tells-none n h = rw (le-ltb 0 n h)
 
 -- A number that turns a step down, and one that does not.
 refusal-is : (n : ℕ) → (n ≡ 0 → ⊥) → n ≤ 17 → isRefusal n ≡ true

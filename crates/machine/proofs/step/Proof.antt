@@ -1,9 +1,8 @@
 -- The step in bytes of the call's own: turned down, the state stays; taken, they are decoded.
 use Prim.Native.Nat.{ℕ}
 use native.Mathlib.Omega.{arith}
-use mathlib.Core.Path.{_≡_}
+use mathlib.Core.Path.{sym, _∙_}
 use lib.ListN.{replicate, length-replicate}
-use Rattle.encoding.specs.Encode.{encodeState}
 use Rattle.fits.proofs.Fitting.{Fitting}
 use Rattle.machine.proofs.Typed.{fitting}
 use Rattle.machine.proofs.Values.{own-bytes, turned-down, taken}
@@ -23,7 +22,7 @@ returns c =
     let d = c .before .before .before in
     let e = d .before .before .before in
     let a = start e .args in
-    turned-down (a .table .now) (fits e) (a .activity) (own-bytes (fits e) (replicate 13776 0) (length-replicate {A = ℕ} 13776 0) (e .encode .ensures)) (d .step .ensures .0) (d .step .ensures .1) ?
+    turned-down (a .table .now) (fits e) (a .activity) (own-bytes (fits e) (replicate 13776 0) (length-replicate {A = ℕ} 13776 0) (e .encode .ensures)) (d .step .ensures .0) (d .step .ensures .1) (sym (c .before .is-refusal .ensures) ∙ c .if1 .taken)
 
 returns-2 : tie.Need-returns-2
 returns-2 c =
@@ -32,7 +31,7 @@ returns-2 c =
     let e = d .before .before .before in
     let a = start e .args in
     taken (a .table .now) (fits e) (a .activity) (own-bytes (fits e) (replicate 13776 0) (length-replicate {A = ℕ} 13776 0) (e .encode .ensures)) (d .step .ensures .0) (d .step .ensures .1)
-    (λ i. omega (arith, e .before .before .shared-slice-known .given i)) ? (c .before .decode .ensures) (c .before .before .before .status-at .ensures)
+    (λ i. omega (arith, e .before .before .shared-slice-known .given i)) (sym (l .before .is-refusal .ensures) ∙ l .if1 .left) (c .before .decode .ensures) (c .before .before .before .status-at .ensures)
 
 pub step-spec : {M : Type 1} → statement M
 step-spec =

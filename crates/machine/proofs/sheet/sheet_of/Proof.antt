@@ -32,10 +32,10 @@ loop-less : tie.Need-loop-less Inv-loop μ-loop
 loop-less c = omega arith
 
 loop-again : tie.Need-loop-again Inv-loop μ-loop
-loop-again c = rows-more (c .before .before .loop .inv) (c .before .in-loop) (c .sheet-row .ensures)
+loop-again c = rows-more (c .before .before .loop .inv) (omega arith) (c .sheet-row .ensures)
 
 returns : tie.Need-returns Inv-loop μ-loop
-returns c = rows-all (c .before .loop .inv) (c .after-loop)
+returns c = rows-all (c .before .loop .inv) (omega arith)
 
 pub sheet-of-spec : {M : Type 1} → statement M
 sheet-of-spec =
