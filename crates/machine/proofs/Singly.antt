@@ -21,12 +21,12 @@ told t s [] = []
 told t s (i ∷ order) = answerNumber (step base t s i .answer) ∷ told t (step base t s i .state) order
 
 handed-run : (t : List ℕ) (s : State) (order : List ℕ) → runFrom base t s order ≡ handed t s order
-unfolding runFrom
+unfolding runFrom handed
 handed-run t s [] = refl
 handed-run t s (i ∷ order) = handed-run t (step base t s i .state) order
 
 told-run : (t : List ℕ) (s : State) (order : List ℕ) → map answerNumber (answersFrom base t s order) ≡ told t s order
-unfolding answersFrom
+unfolding answersFrom told
 told-run t s [] = refl
 told-run t s (i ∷ order) = ap (λ (l : List ℕ). answerNumber (step base t s i .answer) ∷ l) (told-run t (step base t s i .state) order)
 
