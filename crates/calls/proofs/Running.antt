@@ -42,15 +42,16 @@ module _ (t order buffer b : List ℕ) where
   unfolding runAnswers runBytes
   kept {n} e h = let q = ne-eqb n 0 h in (e, (rw (sym e, q), rw (sym e, q)))
 
+  -- The table is turned down.
   pub run-refused : {n : ℕ} → n ≡ numberOf workLimit t → (n ≡ 0 → ⊥) → Ends n buffer b
   unfolding runNumber tableFirst
   run-refused {n} e h = kept (rw (sym e, ne-eqb n 0 h)) h
 
   module _ (z : numberOf workLimit t ≡ 0) where
     -- The state's buffer has another length.
-    pub run-long : (length b ≡ 13776 → ⊥) → Ends lengthNumber buffer b
+    pub run-length : (length b ≡ 13776 → ⊥) → Ends lengthNumber buffer b
     unfolding runNumber tableFirst fitsState
-    run-long h = kept (rw (z, ne-eqb (length b) 13776 h)) (λ e. omega arith)
+    run-length h = kept (rw (z, ne-eqb (length b) 13776 h)) (λ e. omega arith)
 
     module _ (l : length b ≡ 13776) where
       -- The answers have too little room.
@@ -59,10 +60,12 @@ module _ (t order buffer b : List ℕ) where
       run-short h = kept (rw (z, eq-eqb (length b) 13776 l, lt-leb (length order) (length buffer) h)) (λ e. omega arith)
 
       module _ (room : length order ≤ length buffer) where
+        -- Nothing is wrong.
         number-done : 0 ≡ runNumber t order (length buffer) b
         unfolding runNumber tableFirst fitsState
         number-done = rw (z, eq-eqb (length b) 13776 l, le-leb (length order) (length buffer) room)
 
+        -- The order is followed from the start state.
         pub run-followed : {starts begun filled after : List ℕ} {work : ℕ} {s : State} → Known t starts → work ≡ workOf (programOf t) → work ≤ workLimit → s ≡ startState
             → begun ≡ cond (eqb (length b) 13776) (encodeState s) b → Follows t starts work order buffer filled begun after → Ends 0 filled after
         unfolding runAnswers runBytes answeredFrom
