@@ -57,24 +57,24 @@ static void take(size_t steps)
 
 /* BUFFERS THAT DO NOT SERVE */
 
-/* Step, ready set and sheet answer the number and leave every byte. */
-static void leave(const uint8_t *job, size_t job_bytes, size_t bytes, unsigned number, const char *name, size_t which)
+/* Step, ready set and sheet answer the number. The state stays; the set is 0, the sheet zeros. */
+static void refuse(const uint8_t *job, size_t job_bytes, size_t bytes, unsigned number, const char *name, size_t which)
 {
-    uint8_t sheet[SHEET], sheet_noted[SHEET];
+    static const uint8_t none[SHEET] = {0};
+    uint8_t sheet[SHEET];
     uint64_t set = 77;
     memset(sheet, 0x5A, SHEET);
-    memset(sheet_noted, 0x5A, SHEET);
     check(stepmachine_step(job, job_bytes, state, bytes, 0) == number, name, which);
     check(stepmachine_ready(job, job_bytes, state, bytes, &set) == number, name, which);
     check(stepmachine_registrations(job, job_bytes, state, bytes, sheet, SHEET) == number, name, which);
-    check(kept() && set == 77 && memcmp(sheet, sheet_noted, SHEET) == 0, "every byte is left", which);
+    check(kept() && set == 0 && memcmp(sheet, none, SHEET) == 0, "the state is left, the set is 0, the sheet zeros", which);
 }
 
 /* The table's number comes before 13. */
 static void unfit(size_t bytes, const char *name, size_t which)
 {
-    leave(table, sizeof table, bytes, 13, name, which);
-    leave(refused, sizeof refused, bytes, 2, "the table's number comes before 13", which);
+    refuse(table, sizeof table, bytes, 13, name, which);
+    refuse(refused, sizeof refused, bytes, 2, "the table's number comes before 13", which);
 }
 
 /* A state of another length. */
@@ -86,10 +86,10 @@ static void lengths(void)
     take(3);
     for (k = 0; k < 4; k++) {
         unfit(other[k], "a state of another length gives 13", other[k]);
-        check(stepmachine_start(table, sizeof table, state, other[k]) == 13, "so does the start's", other[k]);
+        check(stepmachine_start(table, sizeof table, state, other[k]) == 255, "the start's gives 255", other[k]);
         check(stepmachine_start(refused, sizeof refused, state, other[k]) == 2, "after the table's number", other[k]);
-        check(stepmachine_run(table, sizeof table, order, sizeof order, answers, sizeof answers, state, other[k]) == 13,
-              "and the run's", other[k]);
+        check(stepmachine_run(table, sizeof table, order, sizeof order, answers, sizeof answers, state, other[k]) == 255,
+              "and so does the run's", other[k]);
         check(kept(), "every byte is left", other[k]);
     }
 }
@@ -217,7 +217,7 @@ static void sheet_rooms(void)
     size_t k;
     take(3);
     for (k = 0; k < 3; k++) {
-        check(stepmachine_registrations(table, sizeof table, state, STATE, found, other[k]) == 13, "another room gives 13", other[k]);
+        check(stepmachine_registrations(table, sizeof table, state, STATE, found, other[k]) == 255, "another room gives 255", other[k]);
         check(stepmachine_registrations(refused, sizeof refused, state, STATE, found, other[k]) == 2, "after the table's number", other[k]);
         check(kept() && found[0] == 0 && found[16] == 0, "every byte is left", other[k]);
     }
@@ -241,8 +241,8 @@ static void refused_run(void)
 {
     uint8_t answers[sizeof order] = {99};
     take(3);
-    check(stepmachine_run(table, sizeof table, order, sizeof order, answers, sizeof order - 1, state, STATE) == 13,
-          "too little room for the answers gives 13", 13);
+    check(stepmachine_run(table, sizeof table, order, sizeof order, answers, sizeof order - 1, state, STATE) == 255,
+          "too little room for the answers gives 255", 255);
     check(stepmachine_run(refused, sizeof refused, order, sizeof order, answers, 0, state, STATE) == 2, "after the table's number", 2);
     check(kept() && answers[0] == 99, "a refused run leaves every byte", 0);
 }

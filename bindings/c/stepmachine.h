@@ -1,9 +1,12 @@
 /* The step machine's calls over lent bytes. The state's layout is in docs/STATE-BYTES.md.
    Link target/staticlib/libhost.a, which `rt staticlib host` writes, for x86-64.
 
-   Each call answers the documents' number: 0, 100 plus f for fault f, or 1 to 18. The table's number 1 to 12 comes first;
-   a state or sheet of another length, or bytes that encode no state, give 13. A refused call leaves every lent byte as it was; only a
-   refused start writes: the state of zeros, into a buffer of the right length.
+   Each call answers the documents' number: 0, 100 plus f for fault f, or 1 to 18. The table's number 1 to 12 comes first; a state handed
+   in that has another length, or bytes that encode no state, give 13. Then a buffer for what the call writes that has another length than
+   it needs gives 255, and every lent byte stays as it was.
+
+   A refused start writes the state of zeros, a refused ready set is 0, a refused sheet is zeros, each where the buffer has the right
+   length. Every other refused call leaves every lent byte as it was.
 
    A list of commands is entries of 5 bytes, one after the other: the command byte, its operand bytes as they stand in a table
    (PUT's value lowest byte first), then bytes that the command lacks. The k commands of an ATOM are entries of their own after it. `count` is entries, not bytes: of an array
@@ -28,21 +31,22 @@
 extern "C" {
 #endif
 
-/* The start state of a table. */
+/* The start state of a table. Another length of the state gives 255. */
 uint8_t stepmachine_start(const uint8_t *table, size_t table_bytes, uint8_t *state, size_t state_bytes);
 
 /* A step of an activity that the host picks. */
 uint8_t stepmachine_step(const uint8_t *table, size_t table_bytes, uint8_t *state, size_t state_bytes, size_t activity);
 
-/* Who can step: bit i for activity i. */
+/* Who can step: bit i for activity i; 0 where the call is refused. */
 uint8_t stepmachine_ready(const uint8_t *table, size_t table_bytes, const uint8_t *state, size_t state_bytes, uint64_t *set);
 
-/* The standing sheet: 64 rows of 16 bytes, by activity and clock number. */
+/* The standing sheet: 64 rows of 16 bytes, by activity and clock number; zeros where the call is refused. Another length of the sheet gives
+   255. */
 uint8_t stepmachine_registrations(const uint8_t *table, size_t table_bytes, const uint8_t *state, size_t state_bytes, uint8_t *sheet,
                                   size_t sheet_bytes);
 
 /* A run from the start state, a step for each byte of the order: each step's answer, and the state after the last. Too little room for the
-   answers gives 13. */
+   answers, or another length of the state, gives 255. */
 uint8_t stepmachine_run(const uint8_t *table, size_t table_bytes, const uint8_t *order, size_t order_bytes, uint8_t *answers,
                         size_t answers_bytes, uint8_t *state, size_t state_bytes);
 

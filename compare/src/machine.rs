@@ -4,7 +4,7 @@ use reference::bytes::LENGTH;
 
 /// The bytes of a sheet.
 const SHEET: usize = 1_024;
-/// Stands in what is lent before a call, to see that a refused call leaves it.
+/// Stands in what is lent before a call, to see what the call leaves and what it writes.
 const MARK: u8 = 0xA5;
 
 /// A command of a list.
@@ -74,30 +74,21 @@ pub fn step(table: &[u8], state: &mut [u8], activity: usize) -> u8 {
     unsafe { stepmachine_step(table.as_ptr(), table.len(), bytes, length, activity) }
 }
 
-/// The number and the ready set, which is empty where the call leaves what was lent.
+/// The number and the ready set.
 pub fn ready(table: &[u8], state: &[u8]) -> (u8, u64) {
-    let mark = u64::from_le_bytes([MARK; 8]);
-    let mut set = mark;
+    let mut set = u64::from_le_bytes([MARK; 8]);
     let (bytes, length) = (state.as_ptr(), state.len());
     let number = unsafe { stepmachine_ready(table.as_ptr(), table.len(), bytes, length, &mut set) };
-    if number != 0 {
-        assert_eq!(set, mark, "a refused ready set was written");
-        set = 0;
-    }
     (number, set)
 }
 
-/// The number and the sheet, which is of zeros where the call leaves what was lent.
+/// The number and the sheet.
 pub fn registrations(table: &[u8], state: &[u8]) -> (u8, [u8; SHEET]) {
     let mut sheet = [MARK; SHEET];
     let (bytes, length) = (state.as_ptr(), state.len());
     let to = sheet.as_mut_ptr();
     let number =
         unsafe { stepmachine_registrations(table.as_ptr(), table.len(), bytes, length, to, SHEET) };
-    if number != 0 {
-        assert!(sheet == [MARK; SHEET], "a refused sheet was written");
-        sheet = [0; SHEET];
-    }
     (number, sheet)
 }
 

@@ -33,7 +33,7 @@ pub fn table_agrees(seed: u64, index: u64, tally: &mut Tally) {
     }
 }
 
-/// Every call turns the table down with its number and leaves what is lent.
+/// Every call turns the table down with its number: the ready set is empty, the sheet is zeros, and all else that is lent stays.
 pub fn refused_agrees(table: &[u8], number: u8) {
     for state in [encode(&rules::start()), Vec::new()] {
         let mut after = state.clone();

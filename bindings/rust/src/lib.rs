@@ -1,7 +1,7 @@
 //! The step machine's calls over lent bytes. The state's layout is in docs/STATE-BYTES.md.
 //!
-//! Each call answers the documents' number: 0, 100 plus f for fault f, or 1 to 18. A refused call leaves every lent byte as it
-//! was; only a refused start writes, the state of zeros.
+//! Each call answers the documents' number: 0, 100 plus f for fault f, or 1 to 18; or 255 where a run's answers have too little room. A
+//! refused start writes the state of zeros, and a refused sheet is zeros; every other refused call leaves every lent byte as it was.
 
 /// The version of the layout, a state's first byte.
 pub const VERSION: u8 = 1;
@@ -57,14 +57,14 @@ pub fn ready(table: &[u8], state: &State) -> Result<u64, u8> {
     }
 }
 
-/// The standing sheet.
+/// The standing sheet; zeros where the call is refused.
 pub fn registrations(table: &[u8], state: &State, sheet: &mut Sheet) -> u8 {
     unsafe {
         calls::stepmachine_registrations(table.as_ptr(), table.len(), state.as_ptr(), state.len(), sheet.as_mut_ptr(), sheet.len())
     }
 }
 
-/// A run from the start state: each step's answer, and the state after the last. Too little room for the answers gives 13.
+/// A run from the start state: each step's answer, and the state after the last. Too little room for the answers gives 255.
 pub fn run(table: &[u8], order: &[u8], answers: &mut [u8], state: &mut State) -> u8 {
     unsafe {
         calls::stepmachine_run(

@@ -50,7 +50,7 @@ fn bytes_that_encode_no_state_give_13() {
     assert_eq!(ready(&REFUSED, &state), Err(2));
     let mut sheet = [7; 1024];
     assert_eq!(registrations(&TABLE, &state, &mut sheet), 13);
-    assert!(sheet == [7; 1024]);
+    assert!(sheet == [0; 1024]);
 }
 
 #[test]
@@ -90,7 +90,7 @@ fn a_refused_run_leaves_every_byte() {
     let before = after(3);
     let mut state = before;
     let mut answers = [99; 9];
-    assert_eq!(run(&TABLE, &ORDER, &mut answers, &mut state), 13);
+    assert_eq!(run(&TABLE, &ORDER, &mut answers, &mut state), 255);
     assert_eq!(run(&REFUSED, &ORDER, &mut answers, &mut state), 2);
     assert_eq!(answers, [99; 9]);
     assert!(state == before);

@@ -43,7 +43,7 @@ module _ (t : List ℕ) {found : Table} (e : found ≡ tableOf workLimit t) wher
 
 -- THE CHECK
 
--- No number: the bytes encode a state, the table is accepted, the state well-formed.
+-- The bytes encode a state, the table is accepted, the state well-formed.
 pub record Passed (t b : List ℕ) : Type 0 where
   pub whole : encodes b ≡ true
   pub accepted : numberOf workLimit t ≡ 0
@@ -59,6 +59,7 @@ module _ (t b : List ℕ) {number : ℕ} (e : number ≡ unfitBytes (numberOf wo
   unfolding unfitBytes unfitNumber tableFirst
   number-none h = e ∙ rw h
 
+  -- No number.
   pub passed : number ≡ 0 → Passed t b
   unfolding unfitBytes unfit
   passed z =

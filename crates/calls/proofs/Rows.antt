@@ -23,10 +23,12 @@ pub record Rowed (b c : List ℕ) (i : ℕ) : Type 0 where
   pub rows : (s : State) → Lent b s → Each rowBytes (sheetOf s) 16 64 i c
 
 module _ {b c : List ℕ} where
+  -- none yet
   pub rowed-none : length c ≡ 1024 → Rowed b c 0
   rowed-none h = record { within = omega arith; sized = h; rows = λ s l. write-none rowBytes (sheetOf s) 16 64 c h }
 
   module _ {i : ℕ} (x : Rowed b c i) where
+    -- one row more
     pub rowed-more : {row e : List ℕ} → i < 64 → ReadsAct (λ (a : Activity). rowOf (a .holds)) b i row → length e ≡ length (take (16 * i + 16 - 16 * i) (drop (16 * i) c)) → e ≡ rowBytes row
         → Rowed b (putMid (16 * i) (16 * i + 16 - 16 * i) c e) (i + 1)
     rowed-more {row} {e} h r w v =
@@ -36,5 +38,6 @@ module _ {b c : List ℕ} where
           rows = λ s l. write-more rowBytes (sheetOf s) 16 64 i [] c e (x .rows s l) (sheet-size s) h w (v ∙ r .reads s l h ∙ sym (sheet-at s i [] h));
         }
 
+    -- all
     pub rowed-all : 64 ≤ i → Tells b c
     rowed-all h = record { tells = λ s l. write-done rowBytes (sheetOf s) 16 64 i c (x .rows s l) (sheet-size s) h }

@@ -3,7 +3,7 @@ use Prim.Native.Nat.{ℕ, _≤_, _<_}
 use native.Mathlib.Omega.{arith}
 use mathlib.Core.Path.{_≡_, sym, _∙_}
 use mathlib.Core.List.{List}
-use mathlib.Core.Bool.{false, cond}
+use mathlib.Core.Bool.{cond}
 use lib.ListN.{length, take}
 use lib.Dec.{eqb}
 use borrow.Author.Tests.{eq-eqb, ne-eqb, le-leb, lt-leb}
@@ -17,7 +17,7 @@ use Rattle.places.specs.Known.{Known}
 use Rattle.encoding.specs.Encode.{encodeState}
 use Rattle.fields.proofs.Start.{lent-start}
 use Rattle.turns.specs.Turns.{Followable, answeredFrom, Follows}
-use Rattle.calls.specs.Calls.{tableFirst, lengthNumber, fitsState, fitsRun, runNumber, runAnswers, runBytes}
+use Rattle.calls.specs.Calls.{tableFirst, lengthNumber, fitsState, runNumber, runAnswers, runBytes}
 
 -- An order can be followed from the start of an accepted table: each state of a run is well-formed.
 pub from-start : (t order : List ℕ) {starts : List ℕ} {work room : ℕ} → numberOf workLimit t ≡ 0 → Known t starts → work ≡ workOf (programOf t) → work ≤ workLimit → length order ≤ room
@@ -42,31 +42,30 @@ module _ (t order buffer b : List ℕ) where
   unfolding runAnswers runBytes
   kept {n} e h = let q = ne-eqb n 0 h in (e, (rw (sym e, q), rw (sym e, q)))
 
+  -- The table is turned down.
   pub run-refused : {n : ℕ} → n ≡ numberOf workLimit t → (n ≡ 0 → ⊥) → Ends n buffer b
   unfolding runNumber tableFirst
   run-refused {n} e h = kept (rw (sym e, ne-eqb n 0 h)) h
 
   module _ (z : numberOf workLimit t ≡ 0) where
-    unserved : fitsRun order (length buffer) b ≡ false → Ends lengthNumber buffer b
-    unfolding runNumber tableFirst
-    unserved q = kept (rw (z, q)) (λ e. omega arith)
-
     -- The state's buffer has another length.
-    pub run-long : (length b ≡ 13776 → ⊥) → Ends lengthNumber buffer b
-    unfolding fitsRun fitsState
-    run-long h = unserved (rw (ne-eqb (length b) 13776 h))
+    pub run-length : (length b ≡ 13776 → ⊥) → Ends lengthNumber buffer b
+    unfolding runNumber tableFirst fitsState
+    run-length h = kept (rw (z, ne-eqb (length b) 13776 h)) (λ e. omega arith)
 
     module _ (l : length b ≡ 13776) where
       -- The answers have too little room.
       pub run-short : length buffer < length order → Ends lengthNumber buffer b
-      unfolding fitsRun fitsState
-      run-short h = unserved (rw (eq-eqb (length b) 13776 l, lt-leb (length order) (length buffer) h))
+      unfolding runNumber tableFirst fitsState
+      run-short h = kept (rw (z, eq-eqb (length b) 13776 l, lt-leb (length order) (length buffer) h)) (λ e. omega arith)
 
       module _ (room : length order ≤ length buffer) where
+        -- Nothing is wrong.
         number-done : 0 ≡ runNumber t order (length buffer) b
-        unfolding runNumber tableFirst fitsRun fitsState
+        unfolding runNumber tableFirst fitsState
         number-done = rw (z, eq-eqb (length b) 13776 l, le-leb (length order) (length buffer) room)
 
+        -- The order is followed from the start state.
         pub run-followed : {starts begun filled after : List ℕ} {work : ℕ} {s : State} → Known t starts → work ≡ workOf (programOf t) → work ≤ workLimit → s ≡ startState
             → begun ≡ cond (eqb (length b) 13776) (encodeState s) b → Follows t starts work order buffer filled begun after → Ends 0 filled after
         unfolding runAnswers runBytes answeredFrom

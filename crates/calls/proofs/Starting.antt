@@ -24,10 +24,12 @@ start-refused t b {n} e h q f = let x = ne-eqb n 0 h in (rw (sym e, x) (go (eqb 
     go false = refl
 
 module _ (t b : List ℕ) (z : numberOf workLimit t ≡ 0) where
-  pub start-long : (length b ≡ 13776 → ⊥) → (lengthNumber ≡ startNumber t b) × (b ≡ startBytes t b)
+  -- The buffer has another length.
+  pub start-length : (length b ≡ 13776 → ⊥) → (lengthNumber ≡ startNumber t b) × (b ≡ startBytes t b)
   unfolding startNumber startBytes fitsState tableFirst
-  start-long h = let q = ne-eqb (length b) 13776 h in (rw (q, z), rw q)
+  start-length h = let q = ne-eqb (length b) 13776 h in (rw (q, z), rw q)
 
+  -- The start state.
   pub start-done : {s : State} {c : List ℕ} → length b ≡ 13776 → s ≡ startState → c ≡ cond (eqb (length b) 13776) (encodeState s) b → (0 ≡ startNumber t b) × (c ≡ startBytes t b)
   unfolding startNumber startBytes fitsState start startWith
   start-done h e f = let q = eq-eqb (length b) 13776 h in (rw (q, z), f ∙ rw (q, z, e))

@@ -49,6 +49,7 @@ unfolding step stepWith
 step-unfit t s i {n} e h = rw (sym e, ne-eqb n 0 h)
 
 module _ (t b : List ℕ) (i : ℕ) {n : ℕ} (e : n ≡ unfitBytes (numberOf workLimit t) (programOf t) b) where
+  -- Turned down by the check: the bytes stay.
   pub step-kept : (n ≡ 0 → ⊥) → (n ≡ stepNumber t b i) × (b ≡ stepBytes t b i)
   unfolding stepNumber stepBytes bytesAfter
   step-kept h = go (encodes b) refl
@@ -57,6 +58,7 @@ module _ (t b : List ℕ) (i : ℕ) {n : ℕ} (e : n ≡ unfitBytes (numberOf wo
       go true w = let q = step-unfit t (stateOf b) i (number-whole t b e w) h in (rw (w, q), rw (w, q))
       go false w = (rw w (number-none t b e w), rw w)
 
+  -- The turn of a well-formed state.
   pub step-turned : {starts c : List ℕ} {work r : ℕ} → n ≡ 0 → Bytes b → Known t starts → work ≡ workOf (programOf t) → work ≤ workLimit → TurnsAny t starts b c work i r
       → (r ≡ stepNumber t b i) × (c ≡ stepBytes t b i)
   unfolding stepNumber

@@ -27,6 +27,7 @@ none = refl
 module _ (t b : List ℕ) {n : ℕ} (e : n ≡ unfitBytes (numberOf workLimit t) (programOf t) b) where
   -- THE READY SET
 
+  -- Turned down: 0.
   pub ready-refused : (n ≡ 0 → ⊥) → (n ≡ readyNumber t b) × (0 ≡ readySet t b)
   unfolding readyNumber readySet ready
   ready-refused h = go (encodes b) refl
@@ -35,6 +36,7 @@ module _ (t b : List ℕ) {n : ℕ} (e : n ≡ unfitBytes (numberOf workLimit t)
       go true w = let q = number-whole t b e w in (rw w q, rw (w, sym q, ne-eqb n 0 h))
       go false w = (rw w (number-none t b e w), rw w)
 
+  -- Told of a well-formed state.
   pub ready-told : {starts : List ℕ} {r : ℕ} → n ≡ 0 → Bytes b → Known t starts → Readies t starts b r → (0 ≡ readyNumber t b) × (r ≡ readySet t b)
   unfolding readyNumber readySet ready
   ready-told z y known m =
@@ -44,6 +46,7 @@ module _ (t b : List ℕ) {n : ℕ} (e : n ≡ unfitBytes (numberOf workLimit t)
 
   -- THE SHEET
 
+  -- The check's number is the sheet's.
   rows-number : n ≡ rowsNumber t b
   unfolding rowsNumber registrationsNumber
   rows-number = go (encodes b) refl
@@ -53,6 +56,7 @@ module _ (t b : List ℕ) {n : ℕ} (e : n ≡ unfitBytes (numberOf workLimit t)
       go false w = rw w (number-none t b e w)
 
   module _ (sheet : List ℕ) where
+    -- Turned down: zeros, where there is room.
     pub sheet-refused : {c : List ℕ} → (n ≡ 0 → ⊥) → c ≡ cond (fitsSheet sheet) (replicate 1024 0) sheet → (n ≡ sheetNumber t b sheet) × (c ≡ sheetBytes t b sheet)
     unfolding sheetNumber sheetBytes registrations registrationsNumber
     sheet-refused {c} h f = (rw (sym rows-number, ne-eqb n 0 h), go (encodes b) refl)
@@ -63,10 +67,11 @@ module _ (t b : List ℕ) {n : ℕ} (e : n ≡ unfitBytes (numberOf workLimit t)
 
     module _ (z : n ≡ 0) where
       -- Another room.
-      pub sheet-long : (length sheet ≡ 1024 → ⊥) → (lengthNumber ≡ sheetNumber t b sheet) × (sheet ≡ sheetBytes t b sheet)
+      pub sheet-length : (length sheet ≡ 1024 → ⊥) → (lengthNumber ≡ sheetNumber t b sheet) × (sheet ≡ sheetBytes t b sheet)
       unfolding sheetNumber sheetBytes fitsSheet
-      sheet-long h = let q = ne-eqb (length sheet) 1024 h in (rw (sym rows-number, z, q), rw q)
+      sheet-length h = let q = ne-eqb (length sheet) 1024 h in (rw (sym rows-number, z, q), rw q)
 
+      -- Told of a well-formed state.
       pub sheet-told : {c : List ℕ} → Bytes b → length sheet ≡ 1024 → Tells b c → (0 ≡ sheetNumber t b sheet) × (c ≡ sheetBytes t b sheet)
       unfolding sheetNumber sheetBytes fitsSheet registrations registrationsNumber
       sheet-told y l m =

@@ -1,7 +1,7 @@
 -- The calls over lent bytes: the number that each answers, and the bytes that it leaves. t is a table, b a state's buffer, each as it was lent.
 use Prim.Native.Nat.{ℕ}
 use mathlib.Core.List.{List, map, _++_}
-use mathlib.Core.Bool.{Bool, cond, _&&_}
+use mathlib.Core.Bool.{Bool, cond}
 use lib.ListN.{length, drop, replicate}
 use lib.Dec.{leb, eqb}
 use Rattle.program.specs.Table.{workLimit, numberOf}
@@ -89,13 +89,9 @@ sheetBytes t b sheet = cond (fitsSheet sheet) (cond (encodes b) (encodeEach rowB
 
 -- RUN: the start, and a step for each byte of the order
 
--- room for the state, and for an answer to each step
-unfoldable pub fitsRun : List ℕ → ℕ → List ℕ → Bool
-fitsRun order room b = fitsState b && leb (length order) room
-
--- 0 or 1 to 12; then 255 for buffers without this room
+-- 0 or 1 to 12; then 255 for a state's buffer of another length, or too little room for the answers
 unfoldable pub runNumber : List ℕ → List ℕ → ℕ → List ℕ → ℕ
-runNumber t order room b = tableFirst t (cond (fitsRun order room b) 0 lengthNumber)
+runNumber t order room b = tableFirst t (cond (fitsState b) (cond (leb (length order) room) 0 lengthNumber) lengthNumber)
 
 -- A byte for each step's answer; what is past them stays. A refused run leaves the buffer as it was.
 unfoldable pub runAnswers : List ℕ → List ℕ → List ℕ → List ℕ → List ℕ

@@ -1,6 +1,6 @@
 -- The check decides, then the room.
 use native.Mathlib.Omega.{arith}
-use Rattle.calls.proofs.Telling.{sheet-refused, sheet-long, sheet-told}
+use Rattle.calls.proofs.Telling.{sheet-refused, sheet-length, sheet-told}
 use borrow.Author.Needs.{needs}
 use Rattle.calls.proofs.registrations.Statement.{statement}
 use Rattle.calls.proofs.registrations.Tie as tie
@@ -22,7 +22,7 @@ returns-2 c =
     let h = c .before in
     let k = h .before in
     let a = begun k .args in
-    sheet-long (a .table .now) (a .state .now) (k .check-state .ensures .0) (a .sheet .now) (h .if1 .left) (c .if2 .taken)
+    sheet-length (a .table .now) (a .state .now) (k .check-state .ensures .0) (a .sheet .now) (h .if1 .left) (c .if2 .taken)
 
 returns-3 : tie.Need-returns-3
 returns-3 c =

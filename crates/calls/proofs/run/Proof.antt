@@ -1,7 +1,7 @@
 -- The table's number decides, then the length, then the room; then the order is followed from the start.
 use mathlib.Core.Path.{sym, _∙_}
 use Rattle.calls.proofs.Checking.{number-read, known-read, work-read, work-small}
-use Rattle.calls.proofs.Running.{run-refused, run-long, run-short, run-followed}
+use Rattle.calls.proofs.Running.{run-refused, run-length, run-short, run-followed}
 use borrow.Author.Needs.{needs}
 use Rattle.calls.proofs.run.Statement.{statement}
 use Rattle.calls.proofs.run.Tie as tie
@@ -21,7 +21,7 @@ returns-2 c =
     let e = c .before in
     let r = e .before in
     let a = begun r .args in
-    run-long (a .table .now) (a .order .now) (a .answers .now) (a .state .now) (sym (number-read (a .table .now) (r .read-table .ensures)) ∙ e .if1 .left) (c .if2 .taken)
+    run-length (a .table .now) (a .order .now) (a .answers .now) (a .state .now) (sym (number-read (a .table .now) (r .read-table .ensures)) ∙ e .if1 .left) (c .if2 .taken)
 
 returns-3 : tie.Need-returns-3
 returns-3 c =

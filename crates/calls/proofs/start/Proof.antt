@@ -1,7 +1,7 @@
 -- The table's number decides, then the length.
 use mathlib.Core.Path.{sym, _∙_}
 use Rattle.calls.proofs.Checking.{number-read}
-use Rattle.calls.proofs.Starting.{start-refused, start-long, start-done}
+use Rattle.calls.proofs.Starting.{start-refused, start-length, start-done}
 use borrow.Author.Needs.{needs}
 use Rattle.calls.proofs.start.Statement.{statement}
 use Rattle.calls.proofs.start.Tie as tie
@@ -21,7 +21,7 @@ returns-2 : tie.Need-returns-2
 returns-2 c =
     let r = c .before .before in
     let a = begun r .args in
-    start-long (a .table .now) (a .state .now) (sym (number-read (a .table .now) (r .read-table .ensures)) ∙ c .before .if1 .left) (c .if2 .taken)
+    start-length (a .table .now) (a .state .now) (sym (number-read (a .table .now) (r .read-table .ensures)) ∙ c .before .if1 .left) (c .if2 .taken)
 
 returns-3 : tie.Need-returns-3
 returns-3 c =
