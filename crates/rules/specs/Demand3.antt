@@ -1,14 +1,13 @@
 -- Demand 3 of the machine's brief, over runs as document 01 has them under "Runs": "Nobody who picks the order can bring an accepted table to a standstill; a run takes
 -- exactly its counted work, or less with a fault; a quiescent phase stays so. One claim about the table and the whole list of calls, of any length."
 -- Beside each field stands the sentence of the brief or of document 01 that it states; what neither says stands without quotation marks.
-use Prim.Native.Nat.{ℕ, _+_, _≤_, _<_}
+use Prim.Native.Nat.{ℕ, _≤_, _<_}
 use mathlib.Core.List.{List, [], _∷_, _++_}
 use mathlib.Core.Bool.{Bool, true, false, _&&_}
 use mathlib.Core.Path.{_≡_}
 use lib.Dec.{leb}
 use Rattle.program.specs.Bodies.{programOf}
 use Rattle.program.specs.Count.{workOf}
-use Rattle.rules.specs.declared.state.State.{State}
 use Rattle.rules.specs.declared.answer.Answer.{Answer}
 use Rattle.rules.specs.declared.answer.Answer.the-variants.{Accepted, Refused}
 use Rattle.rules.specs.Clocks.{quiescent}

@@ -1,15 +1,14 @@
 -- Faults: the number of the first that a command meets, 0 for none.
 use Prim.Native.Nat.{ℕ, _-_, _/_, _%_, _^_}
-use mathlib.Core.Bool.{Bool, true, false, cond, _&&_, not}
+use mathlib.Core.Bool.{Bool, cond, _&&_, not}
 use lib.Dec.{ltb, eqb}
 use Rattle.program.specs.declared.command.Command.{Command}
 use Rattle.program.specs.declared.command.Command.the-variants.{End, Next, Clock, Resume, Drop, Async, Finish, Repeat, Acc, Offer, Read, Reset, Put, Fetch, Store, Add, Atom}
 use Rattle.program.specs.Bodies.{Program}
 use Rattle.rules.specs.declared.state.Activity.{Activity}
 use Rattle.rules.specs.declared.state.Accumulator.{Accumulator}
-use Rattle.rules.specs.declared.state.State.{State}
 use Rattle.rules.specs.Search.{someBelow}
-use Rattle.rules.specs.State.{hold, bound, accumulator}
+use Rattle.rules.specs.State.{hold, bound}
 use Rattle.rules.specs.Clocks.{isLive, holds, holdsSome}
 use Rattle.rules.specs.Tree.{inOwnFinish}
 
