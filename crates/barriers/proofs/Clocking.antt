@@ -6,9 +6,10 @@ use mathlib.Core.List.{List}
 use mathlib.Core.Bool.{Bool, true, false}
 use lib.Dec.{leb}
 use borrow.Author.Tests.{le-leb, lt-leb}
-use Rattle.program.specs.Command.{rows, rowAt, rowOf, isEnd, width, held}
+use Rattle.program.specs.Command.{isEnd}
 use Rattle.program.specs.Bodies.{Program}
 use Rattle.program.specs.declared.command.Command.the-variants.{Clock}
+use Rattle.program.proofs.ShapeRows.{span-is}
 use Rattle.rules.specs.declared.state.Registration.the-variants.{Live}
 use Rattle.rules.specs.declared.state.Hold.{Hold}
 use Rattle.rules.specs.declared.state.Activity.{Activity}
@@ -61,10 +62,10 @@ module _ {b : List ℕ} {p : Program} {s : State} {i work k : ℕ} {h : Hold} {q
     new = withHold (act s i) k (record { phase = 0; clock = m; registration = Live })
 
     made : Lent b₃ (withSteps (withClocks (withAct s i (past p new)) (m + 1)) (s .steps + 1))
-    unfolding new width held rowOf rowAt rows isEnd
+    unfolding new isEnd
     made =
         let z : act (withClocks (withAct s i new) (m + 1)) i ≡ new = act-clocks (withAct s i new) i (m + 1) ∙ act-with new l (few w) in
-        let y = went w refl refl left (count .writes _ (put .writes s l (few w))) (ap (λ (a : Activity). a .frames) z) (ap (λ (a : Activity). a .depth) z) (steps-clocks s i (m + 1) new) g in
+        let y = went w refl (span-is (Clock k)) left (count .writes _ (put .writes s l (few w))) (ap (λ (a : Activity). a .frames) z) (ap (λ (a : Activity). a .depth) z) (steps-clocks s i (m + 1) new) g in
         rw (z, with-clocks s i (m + 1) new (past p new)) at y
 
     pub clocked : q ≡ false → m < 16 → Turned p s i b₃ r

@@ -7,9 +7,10 @@ use mathlib.Core.List.{List, map}
 use mathlib.Core.Bool.{Bool, true, false, cond, _&&_}
 use lib.Dec.{leb, eqb}
 use borrow.Author.Tests.{eqb-false}
-use Rattle.program.specs.Command.{rows, rowAt, rowOf, isEnd, width, held}
+use Rattle.program.specs.Command.{isEnd}
 use Rattle.program.specs.Bodies.{Program}
 use Rattle.program.specs.declared.command.Command.the-variants.{Next}
+use Rattle.program.proofs.ShapeRows.{span-is}
 use Rattle.rules.specs.declared.state.Registration.{Registration}
 use Rattle.rules.specs.declared.state.Registration.the-variants.{Free, Live, Quiesced}
 use Rattle.rules.specs.declared.state.Status.the-variants.{Running, AtBarrier}
@@ -92,9 +93,9 @@ module _ {b : List ℕ} {p : Program} {s : State} {i work : ℕ} (l : Lent b s) 
 
   pub gone : {b₁ b₂ b₃ : List ℕ} {r : ℕ} → isAtBarrier (act s i .status) ≡ true → false ≡ someLast (act s i .holds) → Maps Passable pass b b₁ i
       → WritesAct (λ (a : Activity). withStatus a Running) b₁ b₂ i → GoesOn b₂ b₃ i 1 r → Turned p s i b₃ r
-  unfolding faultFor effectOf nextOf overtakes past width held rowOf rowAt rows isEnd
+  unfolding faultFor effectOf nextOf overtakes past isEnd
   gone {b₃ = b₃} e n m t g =
       let x = withHolds (act s i) Running (map pass (act s i .holds)) in
       let z : act (withAct s i x) i ≡ x = act-with x l (few w) in
-      let y = went w refl refl left (renewed (sym n) m t) (ap (λ (a : Activity). a .frames) z) (ap (λ (a : Activity). a .depth) z) (steps-with s i x) g in
+      let y = went w refl (span-is Next) left (renewed (sym n) m t) (ap (λ (a : Activity). a .frames) z) (ap (λ (a : Activity). a .depth) z) (steps-with s i x) g in
       done-alone w (fault-here w) (exceeding (rw (e, ← n))) (past p x) (rw e) (rw (z, with-with) at y) (g .number)

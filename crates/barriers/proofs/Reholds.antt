@@ -5,10 +5,11 @@ use mathlib.Core.Path.{_≡_, refl, sym, ap, _∙_}
 use mathlib.Core.List.{List}
 use mathlib.Core.Bool.{Bool, true, false}
 use lib.Dec.{leb}
-use Rattle.program.specs.Command.{rows, rowAt, rowOf, isEnd, width, held}
+use Rattle.program.specs.Command.{isEnd, width, held}
 use Rattle.program.specs.Bodies.{Program}
 use Rattle.program.specs.declared.command.Command.{Command}
 use Rattle.program.specs.declared.command.Command.the-variants.{Resume, Drop}
+use Rattle.program.proofs.ShapeRows.{span-is}
 use Rattle.rules.specs.declared.state.Hold.{Hold}
 use Rattle.rules.specs.declared.state.Activity.{Activity}
 use Rattle.rules.specs.declared.state.State.{State}
@@ -48,15 +49,15 @@ module _ {b : List ℕ} {p : Program} {s : State} {i work k : ℕ} {h : Hold} {q
 
   pub resumed : {b₁ b₂ : List ℕ} {x : Hold} {r : ℕ} (w : Standing p s i work (Resume k)) → ReadsAct (λ (a : Activity). hold a k) b i h → q ≡ isHeld (h .registration) → q ≡ true → false ≡ leb work (s .steps)
       → x ≡ quiesce h → WritesAct (λ (a : Activity). withHold a k x) b b₁ i → GoesOn b₁ b₂ i 2 r → Turned p s i b₂ r
-  unfolding faultFor effectOf overfull past width held rowOf rowAt rows isEnd
+  unfolding faultFor effectOf overfull past isEnd
   resumed w under e n left z f g =
       let y = under .reads s l (few w) in
       let clear : fault p s i ≡ 0 = fault-here w ∙ rw (sym (holds-here l (few w) under e) ∙ n) in
-      done-alone w clear (plain w left refl (λ o. omega arith)) _ refl (rw (z, y) at (rehold l w refl refl left f g)) (g .number ∙ sym (calm w))
+      done-alone w clear (plain w left refl (λ o. omega arith)) _ refl (rw (z, y) at (rehold l w refl (span-is (Resume k)) left f g)) (g .number ∙ sym (calm w))
 
   pub dropped : {b₁ b₂ : List ℕ} {x : Hold} {r : ℕ} (w : Standing p s i work (Drop k)) → ReadsAct (λ (a : Activity). hold a k) b i h → q ≡ isHeld (h .registration) → q ≡ true → false ≡ leb work (s .steps)
       → x ≡ noHold → WritesAct (λ (a : Activity). withHold a k x) b b₁ i → GoesOn b₁ b₂ i 2 r → Turned p s i b₂ r
-  unfolding faultFor effectOf overfull past width held rowOf rowAt rows isEnd
+  unfolding faultFor effectOf overfull past isEnd
   dropped w under e n left z f g =
       let clear : fault p s i ≡ 0 = fault-here w ∙ rw (sym (holds-here l (few w) under e) ∙ n) in
-      done-alone w clear (plain w left refl (λ o. omega arith)) _ refl (rw z at (rehold l w refl refl left f g)) (g .number ∙ sym (calm w))
+      done-alone w clear (plain w left refl (λ o. omega arith)) _ refl (rw z at (rehold l w refl (span-is (Drop k)) left f g)) (g .number ∙ sym (calm w))

@@ -8,10 +8,11 @@ use mathlib.Core.Bool.{Bool, true, false, cond}
 use lib.Seq.{getD-set-other}
 use lib.Dec.{leb}
 use borrow.Author.Tests.{le-leb, lt-leb, lt-ltb, le-ltb}
-use Rattle.program.specs.Command.{rows, rowAt, rowOf, isEnd, width, held}
+use Rattle.program.specs.Command.{isEnd, width, held}
 use Rattle.program.specs.Bodies.{programOf}
 use Rattle.program.specs.declared.command.Command.{Command}
-use Rattle.program.specs.declared.command.Command.the-variants.{End}
+use Rattle.program.specs.declared.command.Command.the-variants.{End, Finish, Repeat}
+use Rattle.program.proofs.ShapeRows.{span-is}
 use Rattle.rules.specs.declared.state.Status.the-variants.{Ended}
 use Rattle.rules.specs.declared.state.Frame.{Frame}
 use Rattle.rules.specs.declared.state.Activity.{Activity}
@@ -48,9 +49,8 @@ pop-done {i = i} {d = d} q f g k =
 
 -- the bytes of what runs a body
 size-of : {made : ℕ} {o : Command} {f : Frame} → Ran made o f → width o + 2 * held o ≡ cond (isFinish o) 2 3
-unfolding width held rowOf rowAt rows
-size-of (byFinish b e p q r) = rw e
-size-of (byRepeat n b e p q r u) = rw e
+size-of (byFinish b e p q r) = rw e (span-is (Finish b))
+size-of (byRepeat n b e p q r u) = rw e (span-is (Repeat n b))
 
 module _ {t starts b : List ℕ} {s : State} {i work d : ℕ} (k : Known t starts) (l : Lent b s) (w : Standing (programOf t) s i work End) (left : false ≡ leb work (s .steps))
     (deep : ReadsAct (λ (a : Activity). a .depth) b i d) where

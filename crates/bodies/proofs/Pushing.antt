@@ -5,9 +5,10 @@ use mathlib.Core.Path.{_≡_, refl, sym, ap, _∙_}
 use mathlib.Core.List.{List}
 use mathlib.Core.Bool.{false}
 use lib.Dec.{leb}
-use Rattle.program.specs.Command.{rows, rowAt, rowOf, names, isEnd, width, held}
+use Rattle.program.specs.Command.{isEnd}
 use Rattle.program.specs.Bodies.{Program}
 use Rattle.program.specs.declared.command.Command.the-variants.{Finish, Repeat}
+use Rattle.program.proofs.ShapeRows.{names-is, span-is}
 use Rattle.rules.specs.declared.state.Frame.{Frame}
 use Rattle.rules.specs.declared.state.Activity.{Activity}
 use Rattle.rules.specs.declared.state.State.{State}
@@ -39,21 +40,21 @@ push-done {i = i} {d = d} f g h k =
 
 module _ {b b₁ : List ℕ} {p : Program} {s : State} {i work : ℕ} (l : Lent b s) (left : false ≡ leb work (s .steps)) where
   pub finish-done : {body first r : ℕ} → Standing p s i work (Finish body) → Reads (λ (t : State). t .activities) b first → Pushes body 0 first b b₁ i r → Turned p s i b₁ r
-  unfolding faultFor effectOf overfull pushed names rowOf rowAt rows
+  unfolding faultFor effectOf overfull pushed
   finish-done {body = body} w f g =
       let x = pushed (act s i) body 0 (s .activities) in
-      let m = rw (f .reads s l) at (g .pushes s l (few w) (steps-room w left) (w .deep refl)) in
+      let m = rw (f .reads s l) at (g .pushes s l (few w) (steps-room w left) (w .deep (names-is (Finish body)))) in
       done-alone w (fault-here w) (plain w left refl (λ q. omega arith)) x refl m (g .number ∙ sym (calm w))
 
   pub repeat-none : {n body r : ℕ} → Standing p s i work (Repeat n body) → n ≡ 0 → GoesOn b b₁ i 3 r → Turned p s i b₁ r
-  unfolding faultFor effectOf overfull repeatOf past width held rowOf rowAt rows isEnd
-  repeat-none {n} w e g = done-alone w (fault-here w) (plain w left refl (λ q. omega arith)) (past p (act s i)) (rw e) (went w refl refl left l refl refl refl g) (g .number ∙ sym (calm w))
+  unfolding faultFor effectOf overfull repeatOf past isEnd
+  repeat-none {n} {body} w e g = done-alone w (fault-here w) (plain w left refl (λ q. omega arith)) (past p (act s i)) (rw e) (went w refl (span-is (Repeat n body)) left l refl refl refl g) (g .number ∙ sym (calm w))
 
   pub repeat-some : {n body r : ℕ} → Standing p s i work (Repeat n body) → (n ≡ 0 → ⊥) → Pushes body n 0 b b₁ i r → Turned p s i b₁ r
-  unfolding faultFor effectOf overfull pushed repeatOf names rowOf rowAt rows
+  unfolding faultFor effectOf overfull pushed repeatOf
   repeat-some {n} {body} w e g =
       let x = pushed (act s i) body n 0 in
-      done-alone w (fault-here w) (plain w left refl (λ q. omega arith)) x (ap alone (runs n e)) (g .pushes s l (few w) (steps-room w left) (w .deep refl)) (g .number ∙ sym (calm w))
+      done-alone w (fault-here w) (plain w left refl (λ q. omega arith)) x (ap alone (runs n e)) (g .pushes s l (few w) (steps-room w left) (w .deep (names-is (Repeat n body)))) (g .number ∙ sym (calm w))
     where
       runs : (n : ℕ) → (n ≡ 0 → ⊥) → repeatOf p (act s i) n body ≡ pushed (act s i) body n 0
       runs zero h = absurd (h refl)

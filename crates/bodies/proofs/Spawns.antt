@@ -7,9 +7,10 @@ use mathlib.Core.Bool.{Bool, true, false, cond, _&&_}
 use lib.Seq.{set-comm}
 use lib.Dec.{ltb, leb}
 use borrow.Author.Tests.{le-leb, lt-leb}
-use Rattle.program.specs.Command.{rows, rowAt, rowOf, isEnd, width, held}
+use Rattle.program.specs.Command.{isEnd}
 use Rattle.program.specs.Bodies.{Program, programOf}
 use Rattle.program.specs.declared.command.Command.the-variants.{Async}
+use Rattle.program.proofs.ShapeRows.{span-is}
 use Rattle.rules.specs.declared.state.Fault.{Fault}
 use Rattle.rules.specs.declared.state.Status.the-variants.{Running}
 use Rattle.rules.specs.declared.state.Frame.{Frame}
@@ -85,7 +86,7 @@ module _ {b₀ : List ℕ} {p : Program} {s : State} {i work b m : ℕ} (l : Len
 
   pub born : {b₁ b₂ b₃ b₄ : List ℕ} {n reg o v r : ℕ} → n ≡ s .activities → n < 64 → reg ≡ act s i .register → o ≡ i → WritesAct (young reg o b) b₀ b₁ n → Gives m b₁ b₂ i n → v ≡ n + 1
       → Writes (λ (t : State). withActivities t v) b₂ b₃ → GoesOn b₃ b₄ i 3 r → Turned p s i b₄ r
-  unfolding effectOf overfull past width held rowOf rowAt rows isEnd withActivities child
+  unfolding effectOf overfull past isEnd withActivities child
   born {n = n} {reg = reg} {o = o} {v = v} e few-acts x y f g z c k =
       let a = act s i in
       let d : i ≡ n → ⊥ = λ q. let u = spawned w in omega arith in
@@ -98,6 +99,6 @@ module _ {b₀ : List ℕ} {p : Program} {s : State} {i work b m : ℕ} (l : Len
       let kid = child i a b m in
       let t : Lent _ (withActivities (withAct s n kid) v) = c .writes _ full in
       let own : act (withActivities (withAct s n kid) v) i ≡ a = act-other s i n kid d in
-      let on = went w refl refl left t (ap (λ (t : Activity). t .frames) own) (ap (λ (t : Activity). t .depth) own) (steps-kept s n kid v) k in
+      let on = went w refl (span-is (Async b m)) left t (ap (λ (t : Activity). t .frames) own) (ap (λ (t : Activity). t .depth) own) (steps-kept s n kid v) k in
       let room : leb 64 (s .activities) ≡ false = lt-leb 64 (s .activities) (rw (sym e) few-acts) in
       done w clear (plain w left (rw room) (λ o. omega arith)) (rw (own, applied-spawning s i n v (past p a) kid e z d) at on) (k .number ∙ sym (calm w))

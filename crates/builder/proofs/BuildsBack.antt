@@ -1,62 +1,27 @@
 -- Building from a table that was read yields that table.
-use Prim.Native.Nat.{ℕ, suc, _+_, _*_, _/_, _%_, _<_}
+use Prim.Native.Nat.{ℕ, suc, _+_}
 use native.Mathlib.Omega.{arith}
 use native.Mathlib.Numerals.{add-one}
 use mathlib.Core.List.{List, [], _∷_, map}
 use mathlib.Core.Bool.{Bool, true, false, cond}
 use mathlib.Core.Path.{_≡_, refl, sym, ap, _∙_}
-use lib.ListN.{length, getD, take, take-append-drop}
+use lib.ListN.{length, take, take-append-drop}
 use lib.Dec.{eqb}
-use Rattle.program.specs.Command.{rows, rowAt, widthAt, width, opcode, operandsOf, padded, commandOf, isEnd}
+use Rattle.program.specs.Command.{rowAt, widthAt, width, opcode, operandsOf, padded, isEnd}
 use Rattle.program.specs.Reading.{read, commandsOf}
 use Rattle.program.specs.Scan.{scan, bodyAfter}
 use Rattle.program.specs.declared.command.Command.{Command}
 use Rattle.program.specs.declared.reading.Reading.the-variants.{Whole}
 use Rattle.program.proofs.Basic.{apart, Bytes, bytes-drop}
-use Rattle.program.proofs.ShapeReading.{firsts, firsts-take, each-op, read-as, known}
+use Rattle.program.proofs.ShapeReading.{firsts-take, read-as, known}
+use Rattle.program.proofs.ShapeOperands.{back}
 use Rattle.program.proofs.ShapeListed.{Listed, over, next, passes}
 use Rattle.builder.specs.Build.{bytesIn, entryOf, endsIn, bytesOf, listBytes}
 use Rattle.builder.proofs.Entries.{bytes-split}
 
--- The four bytes of a value come back.
-low : (x u : ℕ) → x < 256 → (x + 256 * u) % 256 ≡ x
-low x u h = omega arith
-
-high : (x u : ℕ) → x < 256 → (x + 256 * u) / 256 ≡ u
-high x u h = omega arith
-
-higher : (x u : ℕ) → x < 65536 → (x + 65536 * u) / 65536 ≡ u
-higher x u h = omega arith
-
-highest : (x u : ℕ) → x < 16777216 → (x + 16777216 * u) / 16777216 ≡ u
-highest x u h = omega arith
-
-word-bytes : (x y z w : ℕ) → x < 256 → y < 256 → z < 256 → w < 256
-    → let v = x + 256 * y + 65536 * z + 16777216 * w in (v % 256 ∷ v / 256 % 256 ∷ v / 65536 % 256 ∷ v / 16777216 % 256 ∷ []) ≡ x ∷ y ∷ z ∷ w ∷ []
-word-bytes x y z w hx hy hz hw =
-    let v = x + 256 * y + 65536 * z + 16777216 * w in
-    let e : v ≡ x + 256 * (y + 256 * (z + 256 * w)) = omega arith in
-    let f : v ≡ x + 256 * y + 65536 * (z + 256 * w) = omega arith in
-    let a : v % 256 ≡ x = rw e (low x (y + 256 * (z + 256 * w)) hx) in
-    let b : v / 256 % 256 ≡ y = ap (λ (u : ℕ). u / 256 % 256) e ∙ rw (high x (y + 256 * (z + 256 * w)) hx) (low y (z + 256 * w) hy) in
-    let c : v / 65536 % 256 ≡ z = ap (λ (u : ℕ). u / 65536 % 256) f ∙ rw (higher (x + 256 * y) (z + 256 * w) (omega arith)) (low z w hz) in
-    let d : v / 16777216 % 256 ≡ w = rw (highest (x + 256 * y + 65536 * z) w (omega arith)) (omega arith) in
-    rw (a, b, c, d)
-
--- A command has the operands that it was read from.
-Back : List ℕ → ℕ → Type 0
-Back s op = take (length (rowAt op .operands)) (padded (operandsOf (commandOf op s))) ≡ firsts (rowAt op .operands) s 0
-
-back : (s : List ℕ) → Bytes s → (op : ℕ) → op < 17 → Back s op
-unfolding Back rows rowAt commandOf
-back s h op =
-    each-op (Back s) refl refl refl refl refl refl refl refl refl refl refl refl
-    (word-bytes (getD s 0 0) (getD s 1 0) (getD s 2 0) (getD s 3 0) (h 0) (h 1) (h 2) (h 3))
-    refl refl refl refl op
-
 -- The bytes that a command's entry makes are those that it was read from.
 entry-bytes : (s : List ℕ) {c : Command} → Bytes s → read s ≡ Whole c (width c) → bytesIn (entryOf c) ≡ take (width c) s
-unfolding read entryOf Back widthAt
+unfolding read entryOf widthAt
 entry-bytes [] h r = apart (cc)
 entry-bytes (op ∷ s) {c} h r =
     let a = read-as op s r in

@@ -1,19 +1,13 @@
 -- The cases hold: computed from the definitions.
 use mathlib.Core.Path.{_≡_, refl}
 use mathlib.Core.Bool.{Bool, true, _&&_}
-use Rattle.program.specs.Command.{rows, rowAt, widthAt, commandOf, rowOf, width, names, named, times, held, isEnd, usesCell}
-use Rattle.program.specs.Reading.{read, readingsAfter, readings, wholes, commandsOf}
-use Rattle.program.specs.Bodies.{firstBody, afterEnd, locate, bodiesOf, programOf}
-use Rattle.program.specs.Scan.{nameFits, atomFits, placing, leftAfter, bodyAfter, verdict, fitsLength, fitsBodies, scan}
-use Rattle.program.specs.Count.{sumOver, tallyTo, tally, workOf, activitiesOf, clocksOf, accumulatorsOf}
-use Rattle.program.specs.Table.{overCount, numberOf}
-use Rattle.program.specs.Same.{sameList, sameLists}
+use Rattle.program.proofs.Opened.{reader-opened}
 use Rattle.builder.specs.Build.{commandIn, bytesIn, entryOf, endsIn, bytesOf, listBytes, builtNumber, builtLength, builtBytes, listedNumber, listedCount, listedEntries}
 use Rattle.builder.specs.Cases.{builds, allBuild, built, longest, lists, allList, listed}
 
 -- To name this on an `unfolding` line is to open the definitions and the cases, for computing with them.
 unfoldable opened : Bool
-unfolding rows rowAt widthAt commandOf rowOf width names named times held isEnd usesCell read readingsAfter readings wholes commandsOf firstBody afterEnd locate bodiesOf programOf nameFits atomFits placing leftAfter bodyAfter verdict fitsLength fitsBodies scan sumOver tallyTo tally workOf activitiesOf clocksOf accumulatorsOf overCount numberOf sameList sameLists commandIn bytesIn entryOf endsIn bytesOf listBytes builtNumber builtLength builtBytes listedNumber listedCount listedEntries builds allBuild built longest lists allList listed
+unfolding reader-opened commandIn bytesIn entryOf endsIn bytesOf listBytes builtNumber builtLength builtBytes listedNumber listedCount listedEntries builds allBuild built longest lists allList listed
 opened = true
 
 built-hold : allBuild built ≡ true

@@ -1,28 +1,21 @@
 -- Reading the bytes of a list yields the list.
-use Prim.Native.Nat.{ℕ, suc, _+_, _<_}
+use Prim.Native.Nat.{ℕ, suc}
 use native.Mathlib.Omega.{arith}
 use mathlib.Core.List.{List, [], _∷_, _++_, map}
 use mathlib.Core.Path.{_≡_, refl, sym, _∙_}
 use lib.ListN.{length, getD, take, drop}
 use lib.Seq.{drop-at}
-use Rattle.program.specs.Command.{rows, rowAt, opcode, width, commandOf}
+use Rattle.program.specs.Command.{rowAt, opcode, width}
 use Rattle.program.specs.Reading.{read, commandsOf}
 use Rattle.program.specs.Scan.{scan}
 use Rattle.program.specs.declared.command.Command.{Command}
 use Rattle.program.specs.declared.reading.Reading.the-variants.{Whole}
 use Rattle.program.proofs.Basic.{apart}
-use Rattle.program.proofs.ShapeReading.{each-op, read-as}
+use Rattle.program.proofs.ShapeReading.{read-as}
+use Rattle.program.proofs.ShapeOperands.{looks}
 use Rattle.program.proofs.ShapeListed.{Listed, over, next, passes}
 use Rattle.builder.specs.Build.{commandIn, bytesIn, bytesOf, listBytes}
 use Rattle.builder.proofs.Entries.{Five, Entry, bytes, five-bytes, bytes-split, bytes-long}
-
--- A command looks only at the operands that its row has.
-looks : (x y z w : ℕ) (rest : List ℕ) (op : ℕ) → op < 17
-    → commandOf op (take (length (rowAt op .operands)) (x ∷ y ∷ z ∷ w ∷ []) ++ rest) ≡ commandOf op (x ∷ y ∷ z ∷ w ∷ [])
-unfolding rows rowAt commandOf
-looks x y z w rest op =
-    each-op (λ (k : ℕ). commandOf k (take (length (rowAt k .operands)) (x ∷ y ∷ z ∷ w ∷ []) ++ rest) ≡ commandOf k (x ∷ y ∷ z ∷ w ∷ []))
-    refl refl refl refl refl refl refl refl refl refl refl refl refl refl refl refl refl op
 
 -- The command that is read from an entry's bytes is the entry's, and as wide as these bytes.
 pub record EntryRead (l : List ℕ) (c : Command) (size : ℕ) : Type 0 where

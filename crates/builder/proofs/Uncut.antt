@@ -10,8 +10,7 @@ use lib.Dec.{leb, ltb, eqb}
 use borrow.Author.Tests.{eq-eqb, ne-eqb, le-ltb}
 use Rattle.program.specs.Command.{rows, rowAt, widthAt, isEnd, opcode, commandOf}
 use Rattle.program.specs.Bodies.{programOf}
-use Rattle.program.specs.Reading.{allInside, read, readingsAfter, readings}
-use Rattle.program.specs.Inner.Scanned.{refusalOf}
+use Rattle.program.specs.Reading.{refusalOf, allInside, read, readingsAfter, readings}
 use Rattle.program.specs.Scan.{nameFits, atomFits, placing, leftAfter, bodyAfter, verdict, fitsLength, fitsBodies, scan}
 use Rattle.program.specs.Count.{workOf, activitiesOf, clocksOf, accumulatorsOf}
 use Rattle.program.specs.Table.{overCount, numberOf}

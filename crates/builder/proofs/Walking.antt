@@ -6,8 +6,7 @@ use mathlib.Core.List.{List, [], _∷_}
 use mathlib.Core.Path.{_≡_, refl, sym, ap, _∙_}
 use lib.ListN.{length, getD, drop, length-drop}
 use lib.Seq.{drop-drop}
-use Rattle.program.specs.Reading.{read, readings, wholes, commandsOf}
-use Rattle.program.specs.Inner.Scanned.{refusalOf}
+use Rattle.program.specs.Reading.{refusalOf, read, readings, wholes, commandsOf}
 use Rattle.program.specs.declared.command.Command.{Command}
 use Rattle.program.specs.declared.command.Command.the-variants.{End}
 use Rattle.program.specs.declared.reading.Reading.{Reading}

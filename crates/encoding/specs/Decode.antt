@@ -70,7 +70,7 @@ stateOf b =
       acts = partsAt 208 64 activityAt (part b 464 13312);
     }
 
--- "WHEN BYTES ENCODE NO STATE"
+-- WHEN BYTES ENCODE NO STATE
 
 -- "a standing above 3; a fault byte that is not 1 to 7 where the standing is faulted, or not 0 where it is not"
 abbrev pub statusPasses : ℕ → ℕ → Bool
@@ -80,7 +80,7 @@ statusPasses n f = cond (eqb n 3) (leb 1 f && leb f 7) (leb n 2 && eqb f 0)
 unfoldable pub frameEncodes : List ℕ → Bool
 frameEncodes b = allZero (part b 5 3)
 
--- "a registration above 2; a phase above 65,535"
+-- "a registration .. above 2", "a phase .. above 65,535"; a reserved byte that is not 0
 unfoldable pub holdEncodes : List ℕ → Bool
 holdEncodes b = leb (numberOf (part b 0 4)) limit && (leb (byteAt b 5) 2 && allZero (part b 6 2))
 

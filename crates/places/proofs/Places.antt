@@ -8,11 +8,11 @@ use mathlib.Core.Bool.{true, false}
 use lib.ListN.{length, getD, drop}
 use lib.Dec.{ltb}
 use borrow.Author.Tests.{ltb-true}
-use Rattle.program.specs.Command.{rows, rowAt, rowOf, width, held, isEnd}
+use Rattle.program.specs.Command.{widthAt, opcode, rowOf, width, held, isEnd}
 use Rattle.program.specs.Reading.{read}
 use Rattle.program.specs.Bodies.{Body, programOf, from, headOf, tailOf}
 use Rattle.program.specs.Scan.{scan, layoutOf}
-use Rattle.program.specs.declared.command.Command.the-variants.{End, Next, Clock, Resume, Drop, Async, Finish, Repeat, Acc, Offer, Read, Reset, Put, Fetch, Store, Add, Atom}
+use Rattle.program.specs.declared.command.Command.the-variants.{End}
 use Rattle.program.specs.declared.command.Command.{Command}
 use Rattle.program.specs.declared.reading.Reading.{Reading}
 use Rattle.program.specs.declared.reading.Reading.the-variants.{Whole, Unknown, Cut, Outside}
@@ -20,6 +20,7 @@ use types.Run
 use denote.Enum
 use Rattle.program.proofs.reading.Reading
 use Rattle.program.proofs.Basic.{and-true}
+use Rattle.program.proofs.RowLaws.{width-few}
 use Rattle.program.proofs.Shape.{Sound, stride}
 use Rattle.program.proofs.ShapeListed.{passes}
 use Rattle.program.proofs.ShapeLaws.{length-program, accepted, stride-is}
@@ -104,21 +105,5 @@ module _ {t : List ℕ} {f : Frame} {command : Command} (on : On t f command) (g
 
 -- A command is a few bytes.
 pub width-small : (c : Command) → width c ≤ 5
-unfolding width rowOf rowAt rows
-width-small End = omega arith
-width-small Next = omega arith
-width-small (Clock c) = omega arith
-width-small (Resume c) = omega arith
-width-small (Drop c) = omega arith
-width-small (Async b m) = omega arith
-width-small (Finish b) = omega arith
-width-small (Repeat n b) = omega arith
-width-small (Acc n o) = omega arith
-width-small (Offer n) = omega arith
-width-small (Read n) = omega arith
-width-small (Reset n) = omega arith
-width-small (Put v) = omega arith
-width-small (Fetch d) = omega arith
-width-small (Store d) = omega arith
-width-small (Add d) = omega arith
-width-small (Atom k) = omega arith
+unfolding width widthAt rowOf
+width-small c = width-few (opcode c)

@@ -1,7 +1,9 @@
 pub mod Basic
 pub mod Shape
 pub mod ShapeRows
+pub mod ShapeRanges
 pub mod ShapeReading
+pub mod ShapeOperands
 pub mod ShapeListed
 pub mod ShapeLaws
 pub mod Located
@@ -18,4 +20,5 @@ pub mod CountLaws
 pub mod WalkLaws
 pub mod TableLaws
 pub mod PlaceLaws
+pub mod Opened
 mod Cases

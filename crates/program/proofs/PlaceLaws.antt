@@ -9,10 +9,10 @@ use lib.Seq.{drop-drop, set-at}
 use lib.Dec.{eqb}
 use borrow.Author.Tests.{eq-eqb, ne-eqb}
 use Rattle.program.specs.Command.{width, isEnd}
-use Rattle.program.specs.Reading.{read, readings, readingsAfter, wholes, commandsOf}
+use Rattle.program.specs.Reading.{refusalOf, read, readings, readingsAfter, wholes, commandsOf}
 use Rattle.program.specs.Scan.{placing, leftAfter, bodyAfter, verdict, scan}
 use Rattle.program.specs.Places.{marks, tableMarks, placesOf}
-use Rattle.program.specs.Inner.Scanned.{opening, refusalOf, markOf}
+use Rattle.program.specs.Inner.Scanned.{opening, markOf}
 use Rattle.program.specs.declared.command.Command.{Command}
 use Rattle.program.specs.declared.reading.Reading.{Reading}
 use Rattle.program.specs.declared.reading.Reading.the-variants.{Whole, Unknown, Cut, Outside}

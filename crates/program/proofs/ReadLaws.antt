@@ -5,8 +5,7 @@ use mathlib.Core.List.{List, [], _∷_}
 use mathlib.Core.Logic.{⊎-elim}
 use native.Mathlib.Omega.{arith}
 use lib.ListN.{drop}
-use Rattle.program.specs.Reading.{read, andOn, readingsAfter, readings}
-use Rattle.program.specs.Inner.Scanned.{refusalOf}
+use Rattle.program.specs.Reading.{refusalOf, read, andOn, readingsAfter, readings}
 use Rattle.program.specs.declared.command.Command.{Command}
 use Rattle.program.specs.declared.reading.Reading.{Reading}
 use Rattle.program.specs.declared.reading.Reading.the-variants.{Whole, Unknown, Cut, Outside}

@@ -9,10 +9,10 @@ use lib.Seq.{drop-drop}
 use lib.Dec.{eqb, ltb, eqb·suc-zero}
 use borrow.Author.Tests.{eq-eqb, ne-eqb, eqb-true, eqb-false, ltb-true}
 use Rattle.program.specs.Command.{rows, rowAt, rowOf, opcode, names, named, held, isEnd, usesCell}
-use Rattle.program.specs.Reading.{read, readings, wholes}
+use Rattle.program.specs.Reading.{refusalOf, read, readings, wholes}
 use Rattle.program.specs.Bodies.{firstBody, afterEnd}
 use Rattle.program.specs.Scan.{nameFits, atomFits, placing, leftAfter, bodyAfter, verdict, bytes}
-use Rattle.program.specs.Inner.Scanned.{refusalOf, extentOf}
+use Rattle.program.specs.Inner.Scanned.{extentOf}
 use Rattle.program.specs.declared.command.Command.{Command}
 use Rattle.program.specs.declared.reading.Reading.{Reading}
 use Rattle.program.specs.declared.reading.Reading.the-variants.{Whole, Unknown, Cut, Outside}

@@ -1,5 +1,5 @@
 -- What each command's row says of it, so that nothing above has to look into the rows.
-use Prim.Native.Nat.{ℕ, _<_}
+use Prim.Native.Nat.{ℕ, _+_, _*_, _<_}
 use mathlib.Core.Bool.{Bool, true, false, _||_, _&&_, not}
 use mathlib.Core.Path.{_≡_, refl, ap}
 use native.Mathlib.Omega.{arith}
@@ -165,6 +165,10 @@ times-is c = ap (λ (s : Saying). s .times) (said c)
 pub held-is : (c : Command) → held c ≡ saying c .held
 unfolding saidOf
 held-is c = ap (λ (s : Saying). s .held) (said c)
+
+-- The bytes of a command with those of the commands that belong to it, two each.
+pub span-is : (c : Command) → width c + 2 * held c ≡ saying c .width + 2 * saying c .held
+span-is c = rw (width-is c, held-is c)
 
 pub work-is : (c : Command) → ownWork c ≡ saying c .work
 unfolding saidOf

@@ -10,10 +10,9 @@ use native.Mathlib.Decide.{ℕ-discrete}
 use lib.ListN.{length, getD, set, take, drop, replicate, length-drop}
 use lib.Seq.{drop-drop, getD-set-same, getD-set-other}
 use Rattle.program.specs.Command.{names, named, times, held, width, isEnd}
-use Rattle.program.specs.Reading.{read, readings, wholes}
+use Rattle.program.specs.Reading.{refusalOf, read, readings, wholes}
 use Rattle.program.specs.Bodies.{firstBody, locate, programOf}
 use Rattle.program.specs.Scan.{scan, leftAfter, layoutOf}
-use Rattle.program.specs.Inner.Scanned.{refusalOf}
 use Rattle.program.specs.Count.{sumOver, tally}
 use Rattle.program.specs.Inner.Coding.{weight}
 use Rattle.program.specs.Inner.Counting.{cap, Small, Added, Counts, Noted, Counting, Filled}

@@ -16,8 +16,15 @@ allInside [] values = true
 allInside (kind ∷ kinds) [] = true
 allInside (kind ∷ kinds) (x ∷ values) = inside kind x && allInside kinds values
 
--- What stands at the start of a list of bytes. "3. The command byte is above 10. 4. Where no whole command can be read, the table is cut.
+-- The number of a reading, 0 of a whole command. "3. The command byte is above 10. 4. Where no whole command can be read, the table is cut.
 -- 5. A c, a, o, d or k is outside its range."
+abbrev pub refusalOf : Reading → ℕ
+refusalOf (Whole c size) = 0
+refusalOf Unknown = 3
+refusalOf Cut = 4
+refusalOf Outside = 5
+
+-- What stands at the start of a list of bytes, numbers 3, 4 and 5 tried in turn.
 unfoldable pub read : List ℕ → Reading
 read [] = Cut
 read (op ∷ s) =

@@ -5,7 +5,7 @@ use mathlib.Core.Bool.{Bool, cond, _||_, _&&_, not}
 use lib.ListN.{length, getD, drop, replicate}
 use lib.Dec.{ltb, leb, eqb}
 use Rattle.program.specs.Command.{width, names, named, held, isEnd, usesCell}
-use Rattle.program.specs.Reading.{readings, commandsOf}
+use Rattle.program.specs.Reading.{refusalOf, readings, commandsOf}
 use Rattle.program.specs.Bodies.{firstBody, afterEnd}
 use Rattle.program.specs.declared.command.Command.{Command}
 use Rattle.program.specs.declared.reading.Reading.{Reading}
@@ -36,10 +36,10 @@ bodyAfter i c = cond (isEnd c) (i + 1) i
 -- "Numbers 3 to 7 are tried for each command in turn; the first failing command decides." Bytes that run out before the last END are a cut;
 -- "8. Bytes follow the last body."
 unfoldable pub verdict : ℕ → ℕ → ℕ → List Reading → ℕ
-verdict n i left [] = cond (eqb i n) 0 4
-verdict n i left (Unknown ∷ rs) = cond (eqb i n) 8 3
-verdict n i left (Cut ∷ rs) = cond (eqb i n) 8 4
-verdict n i left (Outside ∷ rs) = cond (eqb i n) 8 5
+verdict n i left [] = cond (eqb i n) 0 (refusalOf Cut)
+verdict n i left (Unknown ∷ rs) = cond (eqb i n) 8 (refusalOf Unknown)
+verdict n i left (Cut ∷ rs) = cond (eqb i n) 8 (refusalOf Cut)
+verdict n i left (Outside ∷ rs) = cond (eqb i n) 8 (refusalOf Outside)
 verdict n i left (Whole c size ∷ rs) =
     let here = placing n i left c in
     let later = verdict n (bodyAfter i c) (leftAfter left c) rs in

@@ -1,22 +1,6 @@
 -- The cases hold: computed from the rules.
 use mathlib.Core.Path.{_≡_, refl}
 use mathlib.Core.Bool.{Bool, true, _&&_}
-use Rattle.program.specs.Command.{rows, rowAt, commandOf, rowOf, width, names, named, times, held, isEnd, usesCell}
-use Rattle.program.specs.Reading.{read, readingsAfter, readings, wholes, commandsOf}
-use Rattle.program.specs.Bodies.{firstBody, afterEnd, locate, bodiesOf, programOf, from, isPlace}
-use Rattle.program.specs.Scan.{nameFits, atomFits, placing, leftAfter, bodyAfter, verdict, fitsLength, fitsBodies, scan}
-use Rattle.program.specs.Count.{sumOver, tallyTo, tally, workOf, activitiesOf, clocksOf, accumulatorsOf}
-use Rattle.program.specs.Table.{overCount, numberOf}
-use Rattle.program.specs.Same.{sameList, sameLists}
-use Rattle.rules.specs.Search.{someBelow, allBelow, countBelow, bitsBelow, listFrom, chain}
-use Rattle.rules.specs.Clocks.{holdsSome, isBehind, behind, quiescent}
-use Rattle.rules.specs.Tree.{rest, here, nextOffset, finishes, inOwnFinish, inFinishBody, descends, inside}
-use Rattle.rules.specs.Faults.{lendsUnheld, lendsQuiesced, asyncFault, readFault, faultFor}
-use Rattle.rules.specs.Waiting.{behindOf, unendedBelow, unendedInside, waitsFor, waitsAt}
-use Rattle.rules.specs.Effects.{past, pushed, again, popped, endOf, nextOf, repeatOf, lent, child, cellAfter, touch, touchAll, effectOf, withStores, applied}
-use Rattle.rules.specs.WellFormed.{isNoActivity, runBy, isPlaced, isBottom, isStacked, frameFits, stackFits, bodyFits, barrierFits, holdFits, namesFit, spawnerFits, activityFits, countsFit, activitiesFit, accumulatorsFit, wellFormed}
-use Rattle.rules.specs.Steps.{at, fault, waits, effect, refusal, exceeds, advance, unfit, startWith, start, stepWith, step, canStep, ready, registrationOn, sheetOf, registrationsNumber, registrations}
-use Rattle.rules.specs.Runs.{runFrom, answersFrom, run, answers, taken, someFault, finished}
 use Rattle.rules.specs.Same.{activityNumbers, sameActivities, sharedNumbers, sameState}
 use Rattle.rules.specs.Written.{activity, written, withActs, withAccs, withCounts, change, changeAcc, nest, nested, pair, paired, crowd, crowded, deep, deepest, atom, standing}
 use Rattle.rules.specs.CasesStates.{allUnfit, breaks, allBreak, broken, stacked, every, unrun, highest, mainly, over, unmade, spawned, last}
@@ -24,10 +8,11 @@ use Rattle.rules.specs.CasesCalls.{startsSo, allStart, started, answersS
 use Rattle.rules.specs.CasesRuns.{goes, goesSo, allGo, naming, faulting, affected}
 use Rattle.rules.specs.CasesValues.{beginsWith, leaves, allLeave, valued}
 use Rattle.rules.specs.Cases.{numbered, hasFault, accepts, holdsFor, allHold, marked, unfinished, answersBy, stateBy, answersAs, allAnswer, own, linesFrom, printed, walkPrints}
+use Rattle.rules.proofs.Opened.{rules-opened}
 
 -- To name this on an `unfolding` line is to open the rules and the cases, for computing with them.
 unfoldable pub opened : Bool
-unfolding rows rowAt commandOf rowOf width names named times held isEnd usesCell read readingsAfter readings wholes commandsOf firstBody afterEnd locate bodiesOf programOf from isPlace nameFits atomFits placing leftAfter bodyAfter verdict fitsLength fitsBodies scan sumOver tallyTo tally workOf activitiesOf clocksOf accumulatorsOf overCount numberOf someBelow allBelow countBelow bitsBelow listFrom chain holdsSome isBehind behind quiescent rest here nextOffset finishes inOwnFinish inFinishBody descends inside lendsUnheld lendsQuiesced asyncFault readFault faultFor behindOf unendedBelow unendedInside waitsFor waitsAt past pushed again popped endOf nextOf repeatOf lent child cellAfter touch touchAll effectOf withStores applied isNoActivity runBy isPlaced isBottom isStacked frameFits stackFits bodyFits barrierFits holdFits namesFit spawnerFits activityFits countsFit activitiesFit accumulatorsFit wellFormed at fault waits effect refusal exceeds advance unfit startWith start stepWith step canStep ready registrationOn sheetOf registrationsNumber registrations runFrom answersFrom run answers taken someFault finished sameList numbered hasFault accepts holdsFor allHold marked unfinished answersBy stateBy answersAs allAnswer own beginsWith leaves allLeave valued activityNumbers sameActivities sharedNumbers sameState activity written withActs withAccs withCounts change changeAcc nest nested pair paired crowd crowded deep deepest atom standing goes goesSo allGo naming faulting affected allUnfit breaks allBreak broken stacked every unrun highest mainly over unmade spawned last startsSo allStart started answersSo allSo reader reading lined finish handMade allFault breaches rowsBegin shows allShow renamed cornered sheets quietFrom allQuiet quiets linesFrom sameLists printed walkPrints
+unfolding rules-opened numbered hasFault accepts holdsFor allHold marked unfinished answersBy stateBy answersAs allAnswer own beginsWith leaves allLeave valued activityNumbers sameActivities sharedNumbers sameState activity written withActs withAccs withCounts change changeAcc nest nested pair paired crowd crowded deep deepest atom standing goes goesSo allGo naming faulting affected allUnfit breaks allBreak broken stacked every unrun highest mainly over unmade spawned last startsSo allStart started answersSo allSo reader reading lined finish handMade allFault breaches rowsBegin shows allShow renamed cornered sheets quietFrom allQuiet quiets linesFrom printed walkPrints
 opened = true
 
 marked-hold : allHold marked ≡ true

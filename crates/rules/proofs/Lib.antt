@@ -44,6 +44,7 @@ pub mod Start
 pub mod Calls
 pub mod Demand3
 pub mod Runs
+pub mod Opened
 mod Cases
 mod HistoryCases
 mod WrongMachines

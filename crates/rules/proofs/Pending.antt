@@ -3,15 +3,16 @@ use Prim.Native.Nat.{ℕ, suc, _+_, _-_, _≤_, _<_}
 use native.Mathlib.Omega.{arith}
 use mathlib.Core.List.{[]}
 use mathlib.Core.Bool.{Bool, true, false, cond}
-use mathlib.Core.Path.{_≡_, refl, sym, ap, subst}
+use mathlib.Core.Path.{_≡_, refl, sym, ap, _∙_, subst}
 use borrow.Author.Tests.{eqb-true}
 use Rattle.program.specs.declared.command.Command.{Command}
 use Rattle.program.specs.declared.command.Command.the-variants.{Next}
 use Rattle.rules.specs.declared.state.Activity.{Activity}
 use Rattle.rules.specs.declared.state.State.{State}
-use Rattle.program.specs.Command.{rowOf, rowAt, rows, opcode}
+use Rattle.program.specs.Command.{Row, rowAt, opcode, rowOf}
 use Rattle.program.specs.Bodies.{Program}
 use Rattle.program.specs.Count.{ownActivities, ownClocks, ownAccumulators, ownWork}
+use Rattle.program.proofs.ShapeRows.{work-is, activities-is, clocks-is, accumulators-is}
 use Rattle.rules.specs.State.{act, zeroState, noActivity}
 use Rattle.rules.specs.Effects.{envOf, applied, Effect, one, Spawned, spawnedCount, nobody}
 use Rattle.rules.proofs.Sums.{sumBelow, sumBelow-one}
@@ -34,8 +35,10 @@ spent-work c false e = omega arith
 
 -- NEXT makes nothing.
 pub next-makes : (c : Command) → isNext c ≡ true → (ownActivities c ≡ 0) × (ownClocks c ≡ 0) × (ownAccumulators c ≡ 0)
-unfolding isNext rowOf rowAt rows
-next-makes c e = let q : opcode c ≡ 1 = eqb-true _ _ e in (ap (λ n. rowAt n .activities) q, ap (λ n. rowAt n .clocks) q, ap (λ n. rowAt n .accumulators) q)
+unfolding isNext rowOf
+next-makes c e =
+    let q : rowOf c ≡ rowOf Next = ap rowAt (eqb-true (opcode c) 1 e) in
+    (ap (λ (r : Row). r .activities) q ∙ activities-is Next, ap (λ (r : Row). r .clocks) q ∙ clocks-is Next, ap (λ (r : Row). r .accumulators) q ∙ accumulators-is Next)
 
 -- Where NEXT has no weight, a step weighs what its command does.
 pub spent-own : (own : Command → ℕ) (c : Command) (b : Bool) → (b ≡ true → own c ≡ 0) → spent own 0 c b ≡ own c
@@ -49,8 +52,7 @@ spent-own own c false h = go (isNext c)
 
 -- Both steps of NEXT count.
 pub next-work : 1 ≤ ownWork Next
-unfolding rowOf rowAt rows
-next-work = omega arith
+next-work = omega (arith, work-is Next)
 
 -- Every command counts.
 pub work-some : (c : Command) → 0 < ownWork c

@@ -5,13 +5,13 @@ use native.Mathlib.Omega.{arith}
 use mathlib.Core.Bool.{Bool, true, false, _&&_, not}
 use mathlib.Core.Path.{_≡_, refl, sym, ap, _∙_, subst}
 use mathlib.Core.Logic.{_⊎_, inl, inr}
-use lib.Dec.{ltb, leb, eqb}
-use borrow.Author.Tests.{ltb-true, eqb-true, eqb-false, eq-eqb}
+use lib.Dec.{leb, eqb}
+use borrow.Author.Tests.{eqb-true, eqb-false, eq-eqb}
 use Rattle.program.specs.declared.command.Command.{Command}
 use Rattle.program.specs.declared.command.Command.the-variants.{End, Next, Clock, Resume, Drop, Async, Finish, Repeat, Acc, Offer, Read, Reset, Put, Fetch, Store, Add, Atom}
-use Rattle.program.specs.Command.{rows, rowAt, rowOf}
 use Rattle.program.specs.Bodies.{Program}
 use Rattle.program.proofs.Shape.{Accepted, Ranged}
+use Rattle.program.proofs.ShapeRanges.{within}
 use Rattle.rules.specs.declared.state.Activity.{Activity}
 use Rattle.rules.specs.declared.state.State.{State}
 use Rattle.rules.specs.Search.{someBelow, chain}
@@ -49,7 +49,7 @@ read-same s s′ x a n h = go (decide (unbound a n))
 -- where the accumulators that are bound have the same owners, the same fault is met
 fault-same : (p : Program) (s s′ : State) (x : ℕ) (a : Activity) → ((n : ℕ) → n < 8 → unbound a n ≡ false → accumulator s′ (numberUnder a n) .owner ≡ accumulator s (numberUnder a n) .owner)
     → (o : Command) → Ranged o → faultFor p (envOf s′) x a o ≡ faultFor p (envOf s) x a o
-unfolding faultFor Ranged rowOf rowAt rows
+unfolding faultFor
 fault-same p s s′ x a h End r = refl
 fault-same p s s′ x a h Next r = refl
 fault-same p s s′ x a h (Clock c) r = refl
@@ -60,8 +60,8 @@ fault-same p s s′ x a h (Finish b) r = refl
 fault-same p s s′ x a h (Repeat n b) r = refl
 fault-same p s s′ x a h (Acc n o) r = refl
 fault-same p s s′ x a h (Offer n) r = refl
-fault-same p s s′ x a h (Read n) r = read-same s s′ x a n (h n (ltb-true n 8 (and-true (ltb n 8) true r .0)))
-fault-same p s s′ x a h (Reset n) r = read-same s s′ x a n (h n (ltb-true n 8 (and-true (ltb n 8) true r .0)))
+fault-same p s s′ x a h (Read n) r = read-same s s′ x a n (h n (within (Read n) r))
+fault-same p s s′ x a h (Reset n) r = read-same s s′ x a n (h n (within (Reset n) r))
 fault-same p s s′ x a h (Put v) r = refl
 fault-same p s s′ x a h (Fetch d) r = refl
 fault-same p s s′ x a h (Store d) r = refl

@@ -11,10 +11,11 @@ use Rattle.program.specs.declared.command.Command.{Command}
 use Rattle.rules.specs.declared.state.Status.the-variants.{Running}
 use Rattle.rules.specs.declared.state.Frame.{Frame}
 use Rattle.rules.specs.declared.state.Activity.{Activity}
-use Rattle.program.specs.Command.{times, named, names, operandWhere, isRunCount, rowOf, operandsOf, isEnd}
+use Rattle.program.specs.Command.{times, named, names, isEnd}
 use Rattle.program.specs.Bodies.{Located, Body, Program, tailOf}
 use Rattle.program.specs.Count.{sumOver, tally, tallyTo}
 use Rattle.program.proofs.Shape.{Sound, Shaped, Accepted}
+use Rattle.program.proofs.ShapeRows.{saying, named-is, times-is, times-none}
 use Rattle.rules.specs.State.{frame, isAtBarrier, top, isEnded}
 use Rattle.rules.specs.Tree.{here, rest, nextOffset}
 use Rattle.rules.specs.Effects.{past, again, pushed, popped}
@@ -26,6 +27,11 @@ module _ (own : Command → ℕ) where
   -- A command's own weight, and that of what it runs.
   unfoldable pub cost : (ℕ → ℕ) → Command → ℕ
   cost of c = own c + times c * of (named c)
+
+  -- That of a command that is written out.
+  pub cost-is : (of : ℕ → ℕ) (c : Command) → cost of c ≡ own c + saying c .times * of (saying c .named)
+  unfolding cost
+  cost-is of c = rw (times-is c, named-is c)
 
   -- The first command and the rest.
   sum-cons : (of : ℕ → ℕ) (x : Located) (l : Body) → sumOver own of (x ∷ l) ≡ cost of (x .command) + sumOver own of l
@@ -41,14 +47,12 @@ module _ (own : Command → ℕ) where
 
   -- Only what is named counts, and that lies above.
   cost-same : (j k : ℕ → ℕ) (n b : ℕ) (x : Located) → Sound n b x → ((c : ℕ) → b < c → c < n → j c ≡ k c) → cost j (x .command) ≡ cost k (x .command)
-  unfolding cost times
+  unfolding cost
   cost-same j k n b x s h = go (names (x .command)) refl
     where
-      go : (v : Bool) → names (x .command) ≡ v
-          → own (x .command) + cond v (operandWhere isRunCount 1 (rowOf (x .command) .operands) (operandsOf (x .command))) 0 * j (named (x .command))
-          ≡ own (x .command) + cond v (operandWhere isRunCount 1 (rowOf (x .command) .operands) (operandsOf (x .command))) 0 * k (named (x .command))
+      go : (v : Bool) → names (x .command) ≡ v → cost j (x .command) ≡ cost k (x .command)
       go true e = let q = s .above e in rw (h (named (x .command)) (q .0) (q .1))
-      go false e = omega (arith, zero-mul (j (named (x .command))), zero-mul (k (named (x .command))))
+      go false e = rw (times-none (x .command) e) (omega (arith, zero-mul (j (named (x .command))), zero-mul (k (named (x .command)))))
 
   -- The same of a body.
   sum-same : (j k : ℕ → ℕ) (n b : ℕ) (l : Body) → Shaped n b l → ((c : ℕ) → b < c → c < n → j c ≡ k c) → sumOver own j l ≡ sumOver own k l

@@ -3,7 +3,7 @@ use Prim.Native.Nat.{ℕ, zero, suc, _+_}
 use native.Mathlib.Omega.{arith}
 use mathlib.Core.List.{List, [], _∷_}
 use mathlib.Core.Bool.{Bool, true, false, cond}
-use mathlib.Core.Path.{_≡_, refl, _∙_}
+use mathlib.Core.Path.{_≡_, refl, sym, _∙_}
 use lib.ListN.{length, getD, set, length-set}
 use lib.Dec.{eqb}
 use Rattle.program.specs.declared.command.Command.{Command}
@@ -11,9 +11,10 @@ use Rattle.program.specs.declared.command.Command.the-variants.{End, Next, Cloc
 use Rattle.rules.specs.declared.state.Registration.the-variants.{Live}
 use Rattle.rules.specs.declared.state.Hold.{Hold}
 use Rattle.rules.specs.declared.state.Activity.{Activity}
-use Rattle.program.specs.Command.{opcode, names, isEnd, times, rowOf, rowAt, rows}
+use Rattle.program.specs.Command.{opcode, isEnd, times}
 use Rattle.program.specs.Bodies.{Program}
 use Rattle.program.specs.Count.{ownActivities, ownClocks, ownAccumulators, ownWork}
+use Rattle.program.proofs.ShapeRows.{saying, times-is, work-is, activities-is, clocks-is, accumulators-is}
 use Rattle.rules.specs.State.{noHold, isAtBarrier}
 use Rattle.rules.specs.Clocks.{quiesce}
 use Rattle.rules.specs.Faults.{Env, faultFor}
@@ -79,25 +80,25 @@ alike-self = record { frames = refl; depth = refl; status = refl; spawner = refl
 
 -- Each command's kind.
 pub kind : (p : Program) (e : Env) (i : ℕ) (a : Activity) (c : Command) (inner : List Command) → Kind p e i a c (effectOf p e i a c inner)
-unfolding effectOf repeatOf isEnd isNext times names rowOf rowAt rows
+unfolding effectOf repeatOf isEnd isNext
 kind p e i a End inner = ends refl refl refl
 kind p e i a Next inner = meets refl refl refl
-kind p e i a (Clock c) inner = moves _ refl refl refl (alike-holds (replaced c _ (created refl refl) refl)) refl refl
-kind p e i a (Resume c) inner = moves _ refl refl refl (alike-holds (replaced c _ (resumed refl) refl)) refl refl
-kind p e i a (Drop c) inner = moves _ refl refl refl (alike-holds (replaced c _ (dropped refl) refl)) refl refl
+kind p e i a (Clock c) inner = moves _ refl refl (times-is (Clock c)) (alike-holds (replaced c _ (created refl refl) refl)) refl refl
+kind p e i a (Resume c) inner = moves _ refl refl (times-is (Resume c)) (alike-holds (replaced c _ (resumed refl) refl)) refl refl
+kind p e i a (Drop c) inner = moves _ refl refl (times-is (Drop c)) (alike-holds (replaced c _ (dropped refl) refl)) refl refl
 kind p e i a (Async b m) inner = forks b m refl refl refl
 kind p e i a (Finish b) inner = opens b refl refl refl
-kind p e i a (Repeat zero b) inner = moves a refl refl refl alike-self refl refl
+kind p e i a (Repeat zero b) inner = moves a refl refl (times-is (Repeat zero b)) alike-self refl refl
 kind p e i a (Repeat (suc n) b) inner = loops n b refl refl refl
-kind p e i a (Acc n o) inner = moves _ refl refl refl (alike-names n (e .accumulator + 1)) refl refl
-kind p e i a (Offer n) inner = moves a refl refl refl alike-self refl refl
-kind p e i a (Read n) inner = moves _ refl refl refl (alike-register _) refl refl
-kind p e i a (Reset n) inner = moves a refl refl refl alike-self refl refl
-kind p e i a (Put v) inner = moves _ refl refl refl (alike-register v) refl refl
-kind p e i a (Fetch d) inner = moves _ refl refl refl (alike-register _) refl refl
-kind p e i a (Store d) inner = moves _ refl refl refl (alike-register _) refl refl
-kind p e i a (Add d) inner = moves _ refl refl refl (alike-register _) refl refl
-kind p e i a (Atom k) inner = moves _ refl refl refl (alike-register _) refl refl
+kind p e i a (Acc n o) inner = moves _ refl refl (times-is (Acc n o)) (alike-names n (e .accumulator + 1)) refl refl
+kind p e i a (Offer n) inner = moves a refl refl (times-is (Offer n)) alike-self refl refl
+kind p e i a (Read n) inner = moves _ refl refl (times-is (Read n)) (alike-register _) refl refl
+kind p e i a (Reset n) inner = moves a refl refl (times-is (Reset n)) alike-self refl refl
+kind p e i a (Put v) inner = moves _ refl refl (times-is (Put v)) (alike-register v) refl refl
+kind p e i a (Fetch d) inner = moves _ refl refl (times-is (Fetch d)) (alike-register _) refl refl
+kind p e i a (Store d) inner = moves _ refl refl (times-is (Store d)) (alike-register _) refl refl
+kind p e i a (Add d) inner = moves _ refl refl (times-is (Add d)) (alike-register _) refl refl
+kind p e i a (Atom k) inner = moves _ refl refl (times-is (Atom k)) (alike-register _) refl refl
 
 -- COUNTS
 
@@ -109,26 +110,38 @@ Counts c x =
     × (writtenCount 0 (x .write) ≡ ownAccumulators c)
     × (ownWork c ≡ 1 + cond (isNext c) 1 0)
 
+-- Command by command.
+made : (p : Program) (e : Env) (i : ℕ) (a : Activity) (c : Command) (inner : List Command)
+    → let x = effectOf p e i a c inner in
+    (spawnedCount 0 (x .spawned) ≡ saying c .activities)
+    × (clockedCount 0 (x .clocked) ≡ saying c .clocks)
+    × (writtenCount 0 (x .write) ≡ saying c .accumulators)
+    × (saying c .work ≡ 1 + cond (isNext c) 1 0)
+unfolding effectOf isNext
+made p e i a End inner = (refl, refl, refl, refl)
+made p e i a Next inner = (refl, refl, refl, refl)
+made p e i a (Clock c) inner = (refl, refl, refl, refl)
+made p e i a (Resume c) inner = (refl, refl, refl, refl)
+made p e i a (Drop c) inner = (refl, refl, refl, refl)
+made p e i a (Async b m) inner = (refl, refl, refl, refl)
+made p e i a (Finish b) inner = (refl, refl, refl, refl)
+made p e i a (Repeat n b) inner = (refl, refl, refl, refl)
+made p e i a (Acc n o) inner = (refl, refl, refl, refl)
+made p e i a (Offer n) inner = (refl, refl, refl, refl)
+made p e i a (Read n) inner = (refl, refl, refl, refl)
+made p e i a (Reset n) inner = (refl, refl, refl, refl)
+made p e i a (Put v) inner = (refl, refl, refl, refl)
+made p e i a (Fetch d) inner = (refl, refl, refl, refl)
+made p e i a (Store d) inner = (refl, refl, refl, refl)
+made p e i a (Add d) inner = (refl, refl, refl, refl)
+made p e i a (Atom k) inner = (refl, refl, refl, refl)
+
 -- Each command's row.
 pub counts : (p : Program) (e : Env) (i : ℕ) (a : Activity) (c : Command) (inner : List Command) → Counts c (effectOf p e i a c inner)
-unfolding Counts effectOf isNext rowOf rowAt rows
-counts p e i a End inner = (refl, refl, refl, refl)
-counts p e i a Next inner = (refl, refl, refl, refl)
-counts p e i a (Clock c) inner = (refl, refl, refl, refl)
-counts p e i a (Resume c) inner = (refl, refl, refl, refl)
-counts p e i a (Drop c) inner = (refl, refl, refl, refl)
-counts p e i a (Async b m) inner = (refl, refl, refl, refl)
-counts p e i a (Finish b) inner = (refl, refl, refl, refl)
-counts p e i a (Repeat n b) inner = (refl, refl, refl, refl)
-counts p e i a (Acc n o) inner = (refl, refl, refl, refl)
-counts p e i a (Offer n) inner = (refl, refl, refl, refl)
-counts p e i a (Read n) inner = (refl, refl, refl, refl)
-counts p e i a (Reset n) inner = (refl, refl, refl, refl)
-counts p e i a (Put v) inner = (refl, refl, refl, refl)
-counts p e i a (Fetch d) inner = (refl, refl, refl, refl)
-counts p e i a (Store d) inner = (refl, refl, refl, refl)
-counts p e i a (Add d) inner = (refl, refl, refl, refl)
-counts p e i a (Atom k) inner = (refl, refl, refl, refl)
+unfolding Counts
+counts p e i a c inner =
+    let m = made p e i a c inner in
+    (m .0 ∙ sym (activities-is c), m .1 ∙ sym (clocks-is c), m .2 ∙ sym (accumulators-is c), work-is c ∙ m .3)
 
 -- A count after a step is the count before it and what the step makes.
 pub spawned-count : (n : ℕ) (ch : Spawned) → spawnedCount n ch ≡ n + spawnedCount 0 ch

@@ -10,14 +10,15 @@ use lib.ListN.{length}
 use lib.Dec.{ltb, leb}
 use borrow.Author.Tests.{ltb-true, ltb-false, leb-true, leb-false}
 use Rattle.program.specs.declared.command.Command.{Command}
-use Rattle.program.specs.declared.command.Command.the-variants.{End, Next}
+use Rattle.program.specs.declared.command.Command.the-variants.{Next}
 use Rattle.rules.specs.declared.state.Status.the-variants.{Running, AtBarrier, Ended}
 use Rattle.rules.specs.declared.state.Activity.{Activity}
 use Rattle.rules.specs.declared.state.State.{State}
-use Rattle.program.specs.Command.{isEnd, names, named, rowOf, rowAt, rows, times}
+use Rattle.program.specs.Command.{isEnd, named, times}
 use Rattle.program.specs.Bodies.{Program, tailOf}
 use Rattle.program.specs.Count.{tally}
 use Rattle.program.proofs.Shape.{Accepted}
+use Rattle.program.proofs.ShapeRows.{saying, names-is, named-is}
 use Rattle.rules.specs.State.{isEnded, isAtBarrier, top}
 use Rattle.rules.specs.Clocks.{pass, quiesce}
 use Rattle.rules.specs.Tree.{here, isFinish, rest}
@@ -29,7 +30,7 @@ use Rattle.rules.proofs.Tree.{Open}
 use Rattle.rules.proofs.Containment.{Opening, open-before, Was, begun-now}
 use Rattle.rules.proofs.Bodies.{above-here, last-here}
 use Rattle.rules.proofs.Stack.{Stack, past-stack, past-open, push-stack, push-open, again-stack, again-open, pop-stack, pop-open, place, stack-lone}
-use Rattle.rules.proofs.Potential.{pend, frames, cost, pend-running, past-pend, pend-ended, end-pend, again-pend, pop-pend, pend-met, lone-pend, push-pend}
+use Rattle.rules.proofs.Potential.{pend, frames, cost, cost-is, pend-running, past-pend, pend-ended, end-pend, again-pend, pop-pend, pend-met, lone-pend, push-pend}
 
 -- The weight of a step at command c; b tells whether the activity was at a barrier, where passing, of weight `late`, is left of NEXT.
 unfoldable pub spent : (Command → ℕ) → ℕ → Command → Bool → ℕ
@@ -124,30 +125,32 @@ module _ (p : Program) (ok : Accepted p) (s : State) (i : ℕ) (a : Activity) (s
     left-next g h false x xs = record { stack = λ z. rw xs st; meets = λ z. rw (xs, q) h; opening = λ z j m. open-before (rw xs at m) }
 
     -- What c names lies after its own body.
-    pub names-above : names c ≡ true → (top a .body < named c) × (named c < length p)
-    names-above n = subst (λ c. (top a .body < named c) × (named c < length p)) q (above-here p ok (top a) (place p ok a st) (rw q n))
+    pub names-above : saying c .names ≡ true → (top a .body < saying c .named) × (saying c .named < length p)
+    names-above n =
+        let h = subst (λ c. (top a .body < named c) × (named c < length p)) q (above-here p ok (top a) (place p ok a st) (rw q (names-is c ∙ n))) in
+        subst (λ b. (top a .body < b) × (b < length p)) (named-is c) h
 
     -- By the kind of the command.
     pub left-by : {x : Effect} → Kind p (envOf s) i a c x → Left p s a x
-    unfolding isEnd isNext names named rowOf rowAt rows
+    unfolding isEnd isNext
     left-by {x} (ends z xs n) = left-end (rw z) (rw z) x xs
     left-by {x} (meets z xs n) = left-next (rw z) (rw z) (isAtBarrier (a .status)) x xs
     left-by {x} (forks b m z xs n) = left-past a refl refl (standing (rw (q, z))) (rw z) x xs
     left-by {x} (opens b z xs n) =
-        let l = subst (λ c. (top a .body < named c) × (named c < length p)) z (names-above (rw z)) in
+        let l = subst (λ c. (top a .body < saying c .named) × (saying c .named < length p)) z (names-above (rw z)) in
         left-push b 0 (s .activities) (l .0) (l .1) (rw z) (rw z) (λ f. refl) x xs n
     left-by {x} (loops k b z xs n) =
-        let l = subst (λ c. (top a .body < named c) × (named c < length p)) z (names-above (rw z)) in
+        let l = subst (λ c. (top a .body < saying c .named) × (saying c .named < length p)) z (names-above (rw z)) in
         left-push b (suc k) 0 (l .0) (l .1) (rw z) (rw z) (λ f. absurd (true-false false (rw z at f) refl)) x xs n
     left-by {x} (moves b g h t k xs n) = left-past b (k .depth) (k .frames) (rw (k .status) (standing (rw q h))) g x xs
 
     -- The stack of the one spawned.
     pub stack-born : {x : Effect} → Kind p (envOf s) i a c x → OfChild (λ b. Stack p (b .depth) (b .frames) × (isAtBarrier (b .status) ≡ false)) (x .spawned)
-    unfolding child names named rowOf rowAt rows
+    unfolding child
     stack-born k =
         born (λ b. Stack p (b .depth) (b .frames) × (isAtBarrier (b .status) ≡ false))
         (λ b m z.
-        (stack-lone p ok (record { offset = 0; body = b; runs = 0; first = 0 }) (subst (λ c. named c < length p) z (names-above (rw z) .1)) refl refl, refl))
+        (stack-lone p ok (record { offset = 0; body = b; runs = 0; first = 0 }) (subst (λ c. saying c .named < length p) z (names-above (rw z) .1)) refl refl, refl))
         k
 
     -- WHAT IS PENDING
@@ -193,17 +196,16 @@ module _ (p : Program) (ok : Accepted p) (s : State) (i : ℕ) (a : Activity) (s
 
       -- Both steps of NEXT.
       next-spends : c ≡ Next → late ≤ own Next → (b : Bool) → isAtBarrier (a .status) ≡ b → Pend a ≡ spent own late c b + Pend (nextOf p a b)
-      unfolding nextOf spent cost isEnd isNext times names rowOf rowAt rows frames
+      unfolding nextOf spent isEnd isNext frames
       next-spends z l true h =
           let x = past-left (withHolds a Running (map pass (a .holds))) refl refl refl refl (rw z) in
           let y = pend-met own p late a u h in
           omega arith
       next-spends z l false h =
-          let x : pend own p late a ≡ frames own p a + (own Next + 0 * tally own p (named Next))
-          = pend-running own p late a u h ∙ ap (λ o. frames own p a + cost own (tally own p) o) (q ∙ z) in
+          let x : pend own p late a ≡ frames own p a + cost own (tally own p) Next = pend-running own p late a u h ∙ ap (λ o. frames own p a + cost own (tally own p) o) (q ∙ z) in
           let y = pend-met own p late there refl refl in
           let w : frames own p there ≡ frames own p a = refl in
-          let v = zero-mul (tally own p (named Next)) in
+          let v = cost-is own (tally own p) Next in
           rw z (omega arith)
         where
           there : Activity
@@ -212,36 +214,36 @@ module _ (p : Program) (ok : Accepted p) (s : State) (i : ℕ) (a : Activity) (s
       -- A step without a fault lowers what is pending by its weight.
       pub spends : late ≤ own Next → {x : Effect} → Kind p (envOf s) i a c x
           → Pend a ≡ spent own late c (isAtBarrier (a .status)) + Pend (x .self) + pendChild own p late (x .spawned)
-      unfolding cost isEnd isNext times names named rowOf rowAt rows pendChild child
+      unfolding cost isEnd isNext pendChild child
       spends l {x} (ends z xs n) =
           let y = end-left (rw z) (rw z) in
           let w = before (rw z) in
           let v = weight (rw z) in
-          let r : cost own (tally own p) c ≡ own c = subst (λ c. cost own (tally own p) c ≡ own c) (sym z) (omega (arith, zero-mul (tally own p (named End)))) in
+          let r : cost own (tally own p) c ≡ own c = cost-is own (tally own p) c ∙ rw z (omega arith) in
           rw (xs, n) (omega arith)
       spends l {x} (meets z xs n) = let y = next-spends z l (isAtBarrier (a .status)) refl in rw (xs, n) (omega arith)
       spends l {x} (forks b m z xs n) =
           let y = past-left a refl refl (standing (rw (q, z))) u (rw z) in
           let w = before (rw z) in
           let v = weight (rw z) in
-          let r : cost own (tally own p) c ≡ own c + tally own p b = subst (λ c. cost own (tally own p) c ≡ own c + tally own p b) (sym z) (omega arith) in
-          let hi = subst (λ c. named c < length p) z (names-above (rw z) .1) in
+          let r : cost own (tally own p) c ≡ own c + tally own p b = cost-is own (tally own p) c ∙ rw z (omega arith) in
+          let hi = subst (λ c. saying c .named < length p) z (names-above (rw z) .1) in
           let k = lone-pend own p ok late (child i a b m) (record { offset = 0; body = b; runs = 0; first = 0 }) refl refl refl hi refl refl in
           rw (xs, n) (omega arith)
       spends l {x} (opens b z xs n) =
-          let h = subst (λ c. (top a .body < named c) × (named c < length p)) z (names-above (rw z)) in
+          let h = subst (λ c. (top a .body < saying c .named) × (saying c .named < length p)) z (names-above (rw z)) in
           let y = push-pend own p ok late a st u (standing (rw (q, z))) b 0 (s .activities) (h .0) (h .1) in
           let w = before (rw z) in
           let v = weight (rw z) in
-          let r : cost own (tally own p) c ≡ own c + tally own p b = subst (λ c. cost own (tally own p) c ≡ own c + tally own p b) (sym z) (omega arith) in
+          let r : cost own (tally own p) c ≡ own c + tally own p b = cost-is own (tally own p) c ∙ rw z (omega arith) in
           let k : (0 - 1) * tally own p b ≡ 0 = zero-mul _ in
           rw (xs, n) (omega arith)
       spends l {x} (loops k b z xs n) =
-          let h = subst (λ c. (top a .body < named c) × (named c < length p)) z (names-above (rw z)) in
+          let h = subst (λ c. (top a .body < saying c .named) × (saying c .named < length p)) z (names-above (rw z)) in
           let y = push-pend own p ok late a st u (standing (rw (q, z))) b (suc k) 0 (h .0) (h .1) in
           let w = before (rw z) in
           let v = weight (rw z) in
-          let r : cost own (tally own p) c ≡ own c + suc k * tally own p b = subst (λ c. cost own (tally own p) c ≡ own c + suc k * tally own p b) (sym z) refl in
+          let r : cost own (tally own p) c ≡ own c + suc k * tally own p b = cost-is own (tally own p) c ∙ rw z in
           let k = times-pred (suc k) (tally own p b) (omega arith) in
           rw (xs, n) (omega arith)
       spends l {x} (moves b g h t k xs n) =

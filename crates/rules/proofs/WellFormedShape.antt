@@ -11,9 +11,10 @@ use lib.Dec.{ltb, leb}
 use borrow.Author.Tests.{ltb-true, leb-false, eqb-false}
 use Rattle.program.specs.declared.command.Command.{Command}
 use Rattle.program.specs.declared.command.Command.the-variants.{End, Next, Clock, Resume, Drop, Async, Finish, Repeat, Acc, Offer, Read, Reset, Put, Fetch, Store, Add, Atom}
-use Rattle.program.specs.Command.{rows, rowAt, rowOf, opcode, isEnd}
+use Rattle.program.specs.Command.{opcode, isEnd}
 use Rattle.program.specs.Bodies.{Program}
 use Rattle.program.proofs.Shape.{Ranged}
+use Rattle.program.proofs.ShapeRanges.{within}
 use Rattle.rules.specs.declared.state.Status.{Status}
 use Rattle.rules.specs.declared.state.Status.the-variants.{Running, AtBarrier, Ended, Faulted}
 use Rattle.rules.specs.declared.state.Registration.the-variants.{Live}
@@ -25,7 +26,7 @@ use Rattle.rules.specs.Clocks.{isLive, holds, quiesce, pass}
 use Rattle.rules.specs.Tree.{isFinish, inOwnFinish}
 use Rattle.rules.specs.Faults.{bit, lendsUnheld, lendsQuiesced, asyncFault, unbound, numberUnder, readFault, faultFor}
 use Rattle.rules.specs.Effects.{withRegister, stopped, past, pushed, again, popped, endOf, nextOf, repeatOf, child, newAccumulator, touch, touchAll, untouched, Spawned, nobody, one, Write, keep, make, offer, reset, Effect, alone, effectOf, failing, envOf}
-use Rattle.rules.proofs.Tests.{and-true, and-not, and-false, cond-zero, true-false, decide}
+use Rattle.rules.proofs.Tests.{and-not, and-false, cond-zero, true-false, decide}
 use Rattle.rules.proofs.Search.{someBelow-none}
 use Rattle.rules.proofs.Bodies.{moved}
 use Rattle.rules.proofs.WellFormedStack.{Ran, byFinish, byRepeat, level}
@@ -175,13 +176,13 @@ module _ (p : Program) (s : State) (i : ℕ) (a : Activity) (live : isEnded (a .
   -- each command that meets no fault
   pub shape : (o : Command) (inner : List Command) → (isAtBarrier (a .status) ≡ true → opcode o ≡ 1) → Ranged o → faultFor p (envOf s) i a o ≡ 0
       → Shape p s i a o (effectOf p (envOf s) i a o inner)
-  unfolding effectOf faultFor readFault asyncFault repeatOf past pushed isEnd Ranged rowOf rowAt rows touch
+  unfolding effectOf faultFor readFault asyncFault repeatOf past pushed isEnd touch
   shape End inner b r e = of-end inner (still End b (λ q. omega arith))
   shape Next inner b r e = of-next inner
   shape (Clock c) inner b r e =
       record {
         motion = goes refl (still (Clock c) b (λ q. omega arith)) refl refl;
-        holding = clocks c refl (ltb-true c 8 (and-true (ltb c 8) true r .0)) refl;
+        holding = clocks c refl (within (Clock c) r) refl;
         naming = keeps refl refl;
         spawner = refl;
         offspring = childless refl;
@@ -189,7 +190,7 @@ module _ (p : Program) (s : State) (i : ℕ) (a : Activity) (live : isEnded (a .
   shape (Resume c) inner b r e =
       record {
         motion = goes refl (still (Resume c) b (λ q. omega arith)) refl refl;
-        holding = resumes c refl (ltb-true c 8 (and-true (ltb c 8) true r .0)) refl;
+        holding = resumes c refl (within (Resume c) r) refl;
         naming = keeps refl refl;
         spawner = refl;
         offspring = childless refl;
@@ -197,7 +198,7 @@ module _ (p : Program) (s : State) (i : ℕ) (a : Activity) (live : isEnded (a .
   shape (Drop c) inner b r e =
       record {
         motion = goes refl (still (Drop c) b (λ q. omega arith)) refl refl;
-        holding = drops c refl (ltb-true c 8 (and-true (ltb c 8) true r .0)) refl;
+        holding = drops c refl (within (Drop c) r) refl;
         naming = keeps refl refl;
         spawner = refl;
         offspring = childless refl;
@@ -246,7 +247,7 @@ module _ (p : Program) (s : State) (i : ℕ) (a : Activity) (live : isEnded (a .
       record {
         motion = goes refl (still (Offer n) b (λ q. omega arith)) refl refl;
         holding = same refl refl;
-        naming = offers (numberUnder a n) (a .register) refl (number-made n (ltb-true n 8 (and-true (ltb n 8) true r .0)) (cond-zero (unbound a n) 4 0 e .0)) refl;
+        naming = offers (numberUnder a n) (a .register) refl (number-made n (within (Offer n) r) (cond-zero (unbound a n) 4 0 e .0)) refl;
         spawner = refl;
         offspring = childless refl;
       }
@@ -255,7 +256,7 @@ module _ (p : Program) (s : State) (i : ℕ) (a : Activity) (live : isEnded (a .
       record {
         motion = goes refl (still (Reset n) b (λ q. omega arith)) refl refl;
         holding = same refl refl;
-        naming = resets (numberUnder a n) (a .register) refl (number-made n (ltb-true n 8 (and-true (ltb n 8) true r .0)) (cond-zero (unbound a n) 4 _ e .0)) refl;
+        naming = resets (numberUnder a n) (a .register) refl (number-made n (within (Reset n) r) (cond-zero (unbound a n) 4 _ e .0)) refl;
         spawner = refl;
         offspring = childless refl;
       }

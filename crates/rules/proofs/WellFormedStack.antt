@@ -12,9 +12,10 @@ use lib.Dec.{ltb, leb, eqb}
 use borrow.Author.Tests.{ltb-true, ltb-false, lt-ltb, le-ltb, leb-true, le-leb, eqb-true, eq-eqb}
 use Rattle.program.specs.declared.command.Command.{Command}
 use Rattle.program.specs.declared.command.Command.the-variants.{End, Next, Clock, Resume, Drop, Async, Finish, Repeat, Acc, Offer, Read, Reset, Put, Fetch, Store, Add, Atom}
-use Rattle.program.specs.Command.{rows, rowAt, rowOf, names, named, isEnd}
+use Rattle.program.specs.Command.{names, named, isEnd}
 use Rattle.program.specs.Bodies.{Program}
 use Rattle.program.proofs.Shape.{Accepted}
+use Rattle.program.proofs.ShapeRows.{names-is, named-is}
 use Rattle.rules.specs.declared.state.Frame.{Frame}
 use Rattle.rules.specs.declared.state.Activity.{Activity}
 use Rattle.rules.specs.Search.{allBelow}
@@ -84,9 +85,8 @@ ran-going (byRepeat n b e p q r u) = rw e
 
 -- and names it
 pub ran-names : {made : ℕ} {o : Command} {f : Frame} → Ran made o f → (names o ≡ true) × (named o ≡ f .body)
-unfolding names named rowOf rowAt rows
-ran-names (byFinish b e p q r) = rw e (refl, sym p)
-ran-names (byRepeat n b e p q r u) = rw e (refl, sym p)
+ran-names (byFinish b e p q r) = rw e (names-is (Finish b), named-is (Finish b) ∙ sym p)
+ran-names (byRepeat n b e p q r u) = rw e (names-is (Repeat n b), named-is (Repeat n b) ∙ sym p)
 
 -- a body with a first number is run by a FINISH
 pub ran-first : {made : ℕ} {o : Command} {f : Frame} → Ran made o f → isFinish o ≡ true → (f .runs ≡ 0) × (f .first ≤ made)

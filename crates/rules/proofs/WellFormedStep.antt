@@ -11,9 +11,10 @@ use lib.ListN.{length, getD, set, length-set, length-replicate, getD-replicate}
 use lib.Seq.{getD-set-same, getD-set-other}
 use Rattle.program.specs.declared.command.Command.{Command}
 use Rattle.program.specs.declared.command.Command.the-variants.{Async}
-use Rattle.program.specs.Command.{rows, rowAt, rowOf, opcode, names, named, isEnd}
+use Rattle.program.specs.Command.{opcode, names, named, isEnd}
 use Rattle.program.specs.Bodies.{Program}
 use Rattle.program.proofs.Shape.{Accepted, Sound}
+use Rattle.program.proofs.ShapeRows.{names-is, named-is}
 use Rattle.rules.specs.declared.state.Status.{Status}
 use Rattle.rules.specs.declared.state.Status.the-variants.{Running, AtBarrier, Ended, Faulted}
 use Rattle.rules.specs.declared.state.Frame.{Frame}
@@ -226,8 +227,7 @@ owned-after s e z r (resets x v w m b) n l = rw w (λ h. absurd (omega arith), �
 
 -- ASYNC names the body that it spawns
 async-names : {b m : ℕ} (o : Command) → o ≡ Async b m → (names o ≡ true) × (named o ≡ b)
-unfolding names named rowOf rowAt rows
-async-names o e = rw e (refl, refl)
+async-names {b} {m} o e = rw e (names-is (Async b m), named-is (Async b m))
 
 module _ (l : Limits) {p : Program} {s : State} (ok : Accepted p) (f : Facts (l .phase) p s) (z : Sized s) (i : ℕ) (t : Turn p s i) where
   -- what holds of the one who steps

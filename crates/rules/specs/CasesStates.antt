@@ -45,12 +45,12 @@ apart table fit unfit = record { table = table; fit = fit; unfit = unfit ∷ [] 
 
 unfoldable pub broken : List Broken
 broken =
-    -- "a count .. is over its limit (..)": activities, clocks, accumulators, the bodies of a stack
+    -- "a count .. is over its limit": activities, clocks, accumulators, the bodies of a stack
     apart crowd crowded (withCounts 0 65 0 0 crowded)
     ∷ apart nest (withCounts 2 1 16 0 nested) (withCounts 2 1 17 0 nested)
     ∷ apart nest (withCounts 2 1 0 16 nested) (withCounts 2 1 0 17 nested)
     ∷ apart deep (deepest 16) (deepest 17)
-    -- ".. or phase is over its limit (phases 65,535)"
+    -- "a .. phase is over its limit (phases 65,535)"
     ∷ apart pair (change 1 (withHold 0 (holdOn 65535 0 Live)) paired) (change 1 (withHold 0 (holdOn 65536 0 Live)) paired)
     -- "steps taken exceed the work"
     ∷ apart nest (withCounts 6 1 0 0 nested) (withCounts 7 1 0 0 nested)

@@ -2,14 +2,14 @@
 use Prim.Native.Nat.{ℕ, zero, suc, _+_, _-_, _%_}
 use mathlib.Core.List.{List, [], _∷_, map}
 use mathlib.Core.Bool.{Bool, true, false, cond}
-use lib.ListN.{getD, set, replicate}
+use lib.ListN.{getD, set}
 use lib.Dec.{ltb, leb, eqb}
 use Rattle.program.specs.declared.command.Command.{Command}
 use Rattle.program.specs.declared.command.Command.the-variants.{End, Next, Clock, Resume, Drop, Async, Finish, Repeat, Acc, Offer, Read, Reset, Put, Fetch, Store, Add, Atom}
-use Rattle.program.specs.Bodies.{Located, Program}
+use Rattle.program.specs.Bodies.{Program}
 use Rattle.rules.specs.declared.state.Status.{Status}
-use Rattle.rules.specs.declared.state.Status.the-variants.{Running, AtBarrier, Ended, Faulted}
-use Rattle.rules.specs.declared.state.Registration.the-variants.{Free, Live, Quiesced}
+use Rattle.rules.specs.declared.state.Status.the-variants.{Running, AtBarrier, Ended}
+use Rattle.rules.specs.declared.state.Registration.the-variants.{Live}
 use Rattle.rules.specs.declared.state.Operator.{Operator}
 use Rattle.rules.specs.declared.state.Operator.the-variants.{Sum, Minimum, Maximum}
 use Rattle.rules.specs.declared.state.Frame.{Frame}

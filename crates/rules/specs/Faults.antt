@@ -1,15 +1,15 @@
 -- Faults: the number of the first that a command meets, 0 for none.
 use Prim.Native.Nat.{ℕ, _-_, _/_, _%_, _^_}
-use mathlib.Core.Bool.{Bool, true, false, cond, _&&_, not}
+use mathlib.Core.Bool.{Bool, cond, _&&_, not}
 use lib.Dec.{ltb, eqb}
 use Rattle.program.specs.declared.command.Command.{Command}
 use Rattle.program.specs.declared.command.Command.the-variants.{End, Next, Clock, Resume, Drop, Async, Finish, Repeat, Acc, Offer, Read, Reset, Put, Fetch, Store, Add, Atom}
 use Rattle.program.specs.Bodies.{Program}
+use Rattle.rules.specs.declared.state.Fault.the-variants.{F1, F2, F3, F4, F5, F6, F7}
 use Rattle.rules.specs.declared.state.Activity.{Activity}
 use Rattle.rules.specs.declared.state.Accumulator.{Accumulator}
-use Rattle.rules.specs.declared.state.State.{State}
 use Rattle.rules.specs.Search.{someBelow}
-use Rattle.rules.specs.State.{hold, bound, accumulator}
+use Rattle.rules.specs.State.{faultNumber, hold, bound}
 use Rattle.rules.specs.Clocks.{isLive, holds, holdsSome}
 use Rattle.rules.specs.Tree.{inOwnFinish}
 
@@ -36,7 +36,7 @@ lendsQuiesced a m = someBelow 8 (λ k. bit m k && (holds a k && not (isLive (hol
 
 -- "F3 ASYNC with m not 0 while in an own FINISH body; this is tried before F1."
 unfoldable pub asyncFault : Program → Activity → ℕ → ℕ
-asyncFault p a m = cond (ltb 0 m && inOwnFinish p a) 3 (cond (lendsUnheld a m) 1 (cond (lendsQuiesced a m) 2 0))
+asyncFault p a m = cond (ltb 0 m && inOwnFinish p a) (faultNumber F3) (cond (lendsUnheld a m) (faultNumber F1) (cond (lendsQuiesced a m) (faultNumber F2) 0))
 
 abbrev pub unbound : Activity → ℕ → Bool
 unbound a n = eqb (bound a n) 0
@@ -47,20 +47,20 @@ numberUnder a n = bound a n - 1
 
 -- "F5 OFFER, READ or RESET of an unbound name. F6 READ or RESET of another's accumulator. F7 READ or RESET while holding a clock."
 unfoldable pub readFault : Env → ℕ → Activity → ℕ → ℕ
-readFault e i a n = cond (unbound a n) 5 (cond (eqb (e .look (numberUnder a n) .owner) i) (cond (holdsSome a) 7 0) 6)
+readFault e i a n = cond (unbound a n) (faultNumber F5) (cond (eqb (e .look (numberUnder a n) .owner) i) (cond (holdsSome a) (faultNumber F7) 0) (faultNumber F6))
 
 -- "F1 RESUME, DROP or ASYNC of a clock not held .. F4 CLOCK on a held name."
 unfoldable pub faultFor : Program → Env → ℕ → Activity → Command → ℕ
 faultFor p e i a End = 0
 faultFor p e i a Next = 0
-faultFor p e i a (Clock c) = cond (holds a c) 4 0
-faultFor p e i a (Resume c) = cond (holds a c) 0 1
-faultFor p e i a (Drop c) = cond (holds a c) 0 1
+faultFor p e i a (Clock c) = cond (holds a c) (faultNumber F4) 0
+faultFor p e i a (Resume c) = cond (holds a c) 0 (faultNumber F1)
+faultFor p e i a (Drop c) = cond (holds a c) 0 (faultNumber F1)
 faultFor p e i a (Async b m) = asyncFault p a m
 faultFor p e i a (Finish b) = 0
 faultFor p e i a (Repeat n b) = 0
 faultFor p e i a (Acc n o) = 0
-faultFor p e i a (Offer n) = cond (unbound a n) 5 0
+faultFor p e i a (Offer n) = cond (unbound a n) (faultNumber F5) 0
 faultFor p e i a (Read n) = readFault e i a n
 faultFor p e i a (Reset n) = readFault e i a n
 faultFor p e i a (Put v) = 0

@@ -1,19 +1,14 @@
 -- Runs: "A run is an accepted table with a list of activity numbers, whatever they are: the start is called once, then one step for each number."
 use Prim.Native.Nat.{ℕ, _+_}
-use mathlib.Core.List.{List, [], _∷_, map}
-use mathlib.Core.Bool.{Bool, true, false, cond, _||_, _&&_, not}
-use lib.Dec.{ltb, leb, eqb}
-use Rattle.program.specs.Bodies.{Program, programOf}
-use Rattle.program.specs.Table.{numberOf}
-use Rattle.rules.specs.declared.state.Status.{Status}
+use mathlib.Core.List.{List, [], _∷_}
+use mathlib.Core.Bool.{Bool, true, false, cond, _||_}
 use Rattle.rules.specs.declared.state.Status.the-variants.{Running, AtBarrier, Ended, Faulted}
 use Rattle.rules.specs.declared.state.State.{State}
 use Rattle.rules.specs.declared.answer.Answer.{Answer}
 use Rattle.rules.specs.declared.answer.Answer.the-variants.{Accepted, Refused}
-use Rattle.rules.specs.declared.answer.Stepped.{Stepped}
-use Rattle.rules.specs.Search.{allBelow, countBelow}
-use Rattle.rules.specs.State.{answerNumber, ended}
-use Rattle.rules.specs.Steps.{Limits, startState, start, step}
+use Rattle.rules.specs.Search.{allBelow}
+use Rattle.rules.specs.State.{ended}
+use Rattle.rules.specs.Steps.{Limits, start, step}
 
 -- "each later one the state that the step before returned, turned down or not"
 unfoldable pub runFrom : Limits → List ℕ → State → List ℕ → State

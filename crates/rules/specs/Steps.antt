@@ -1,7 +1,7 @@
 -- The calls: start, step, ready set and standing sheet, with the numbers for which each is turned down, in checking order.
 use Prim.Native.Nat.{ℕ}
 use mathlib.Core.List.{List, [], _∷_}
-use mathlib.Core.Bool.{Bool, true, false, cond, _||_, _&&_, not}
+use mathlib.Core.Bool.{Bool, true, false, cond, _||_, _&&_}
 use lib.ListN.{set, replicate}
 use lib.Dec.{ltb, leb, eqb}
 use Rattle.program.specs.Bodies.{Located, Program, programOf}
@@ -9,7 +9,6 @@ use Rattle.program.specs.Count.{workOf}
 use Rattle.program.specs.Table.{workLimit, numberOf}
 use Rattle.rules.specs.declared.state.Status.the-variants.{Running, Faulted}
 use Rattle.rules.specs.declared.state.Hold.{Hold}
-use Rattle.rules.specs.declared.state.Activity.{Activity}
 use Rattle.rules.specs.declared.state.State.{State}
 use Rattle.rules.specs.declared.answer.Answer.{Answer}
 use Rattle.rules.specs.declared.answer.Answer.the-variants.{Accepted, Refused}

@@ -1,16 +1,15 @@
 -- Whom an activity waits for, as a set. It waits if the set is not empty and its command meets no fault: "Faults come before waiting."
 use Prim.Native.Nat.{ℕ}
-use mathlib.Core.Bool.{Bool, true, false, _&&_, not}
-use lib.Dec.{eqb}
+use mathlib.Core.Bool.{Bool, false, _&&_, not}
 use Rattle.program.specs.declared.command.Command.{Command}
 use Rattle.program.specs.declared.command.Command.the-variants.{End, Next, Clock, Resume, Drop, Async, Finish, Repeat, Acc, Offer, Read, Reset, Put, Fetch, Store, Add, Atom}
 use Rattle.program.specs.Bodies.{Program}
 use Rattle.rules.specs.declared.state.Activity.{Activity}
 use Rattle.rules.specs.declared.state.State.{State}
 use Rattle.rules.specs.Search.{someBelow}
-use Rattle.rules.specs.State.{act, top, hold, ended, isAtBarrier}
+use Rattle.rules.specs.State.{top, hold, ended, isAtBarrier}
 use Rattle.rules.specs.Clocks.{holds, behind}
-use Rattle.rules.specs.Tree.{here, inFinishBody, descends, inside}
+use Rattle.rules.specs.Tree.{inFinishBody, descends, inside}
 
 -- "Passing waits until each own clock is quiescent in the activity's phase on it. With no clocks it never waits."
 unfoldable pub behindOf : State → Activity → ℕ → Bool

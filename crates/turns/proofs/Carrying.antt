@@ -4,7 +4,7 @@ use mathlib.Core.Path.{_≡_}
 use mathlib.Core.List.{List}
 use Rattle.program.specs.Bodies.{programOf}
 use Rattle.program.specs.declared.command.Command.{Command}
-use Rattle.program.proofs.Shape.{Ranged}
+use Rattle.program.proofs.ShapeRanges.{Within, within}
 use Rattle.moves.specs.Moves.{Turns, TurnsIn}
 use Rattle.moves.proofs.Ranges.{ranged-here}
 
@@ -17,6 +17,6 @@ module _ {t starts b e : List ℕ} {work i r : ℕ} {command c : Command} (q : c
   pub simply : Turns c b e work i r → TurnsIn t starts command b e work i r
   simply m = reading (record { turns = λ k s l w. m .turns (programOf t) s l w })
 
-  -- by one that asks for an operand inside its range
-  pub ranging : {P : Type 0} → (Ranged c → P) → (P → Turns c b e work i r) → TurnsIn t starts command b e work i r
-  ranging small m = reading (record { turns = λ k s l w. m (small (ranged-here k w)) .turns (programOf t) s l w })
+  -- by one that asks for operands inside their ranges
+  pub ranging : (Within c → Turns c b e work i r) → TurnsIn t starts command b e work i r
+  ranging m = reading (record { turns = λ k s l w. m (within c (ranged-here k w)) .turns (programOf t) s l w })

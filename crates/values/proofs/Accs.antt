@@ -6,9 +6,10 @@ use mathlib.Core.List.{List}
 use mathlib.Core.Bool.{true, false}
 use lib.Dec.{leb}
 use borrow.Author.Tests.{le-leb, lt-leb}
-use Rattle.program.specs.Command.{rows, rowAt, rowOf, isEnd, width, held}
+use Rattle.program.specs.Command.{isEnd}
 use Rattle.program.specs.Bodies.{Program}
 use Rattle.program.specs.declared.command.Command.the-variants.{Acc}
+use Rattle.program.proofs.ShapeRows.{span-is}
 use Rattle.rules.specs.declared.state.Operator.{Operator}
 use Rattle.rules.specs.declared.state.Activity.{Activity}
 use Rattle.rules.specs.declared.state.Accumulator.{Accumulator}
@@ -49,7 +50,7 @@ module _ {b : List ℕ} {p : Program} {s : State} {i work n o : ℕ} (l : Lent b
   pub made : {b₁ b₂ b₃ b₄ : List ℕ} {m v u k r : ℕ} {f : Operator} {c : Accumulator} → n < 8 → m ≡ s .accumulators → m < 16 → k ≡ i % 256 → f ≡ operatorOf o → c ≡ newAccumulator k f
       → (m < 16 → Writes (λ (t : State). withAcc t m c) b b₁) → v ≡ m + 1 → Writes (λ (t : State). withAccumulators t v) b₁ b₂ → u ≡ m + 1
       → (n < 8 → WritesAct (λ (a : Activity). withName a n u) b₂ b₃ i) → GoesOn b₃ b₄ i 3 r → Turned p s i b₄ r
-  unfolding faultFor effectOf overfull past width held rowOf rowAt rows isEnd
+  unfolding faultFor effectOf overfull past isEnd
   made {m = m} {v = v} {u = u} {k = k} {c = c} small e room own op q put z count y name g =
       let h = few w in
       let j : k ≡ i = omega arith in
@@ -58,7 +59,7 @@ module _ {b : List ℕ} {p : Program} {s : State} {i work n o : ℕ} (l : Lent b
       let x = withName (act s i) n u in
       let a = rw (same-act s i m v c) at (name small .writes _ t h) in
       let mine : act (withAct (grown s m c v) i x) i ≡ x = act-with x t h in
-      let on = went w refl refl left a (ap (λ (a : Activity). a .frames) mine) (ap (λ (a : Activity). a .depth) mine) (same-steps s i m v c x) g in
+      let on = went w refl (span-is (Acc n o)) left a (ap (λ (a : Activity). a .frames) mine) (ap (λ (a : Activity). a .depth) mine) (same-steps s i m v c x) g in
       let fits : leb 16 (s .accumulators) ≡ false = lt-leb 16 (s .accumulators) (rw (sym e) room) in
       let end = rw (mine, with-with, applied-making s i m v c (past p x) e z, new, y, e) at on in
       done w (fault-here w) (plain w left (rw fits) (λ o. omega arith)) end (g .number ∙ sym (calm w))

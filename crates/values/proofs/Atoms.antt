@@ -7,9 +7,9 @@ use mathlib.Core.List.{List, [], _∷_, _++_}
 use mathlib.Core.Bool.{true, false}
 use lib.ListN.{length, getD, take, drop}
 use lib.Seq.{take-suc, take-all, getD-drop}
-use lib.Dec.{leb, ltb}
-use borrow.Author.Tests.{leb-true, ltb-true}
-use Rattle.program.specs.Command.{rows, rowAt, rowOf, opcode, commandOf, isEnd, width, held, usesCell}
+use lib.Dec.{leb}
+use borrow.Author.Tests.{leb-true}
+use Rattle.program.specs.Command.{opcode, commandOf, isEnd, width, held, usesCell}
 use Rattle.program.specs.Bodies.{programOf}
 use Rattle.program.specs.Reading.{read}
 use Rattle.program.specs.declared.command.Command.{Command}
@@ -18,8 +18,9 @@ use Rattle.program.specs.declared.reading.Reading.the-variants.{Whole}
 use Rattle.program.proofs.Basic.{and-true, each-from}
 use Rattle.program.proofs.RangeLaws.{tail-part}
 use Rattle.program.proofs.Shape.{Ranged, OnCells}
+use Rattle.program.proofs.ShapeRanges.{within}
 use Rattle.program.proofs.ShapeReading.{read-as, known}
-use Rattle.program.proofs.ShapeRows.{held-is, width-is}
+use Rattle.program.proofs.ShapeRows.{held-is, width-is, span-is}
 use Rattle.rules.specs.declared.state.Frame.{Frame}
 use Rattle.rules.specs.declared.state.Activity.{Activity}
 use Rattle.rules.specs.declared.state.State.{State}
@@ -68,12 +69,12 @@ AsRead : List ℕ → Command → ℕ → Type 0
 AsRead s c op = op ≤ 15 → commandOf op s ≡ c → Ranged c → (getD s 0 0 < 16) × (commandOf op (getD s 0 0 ∷ []) ≡ c)
 
 as-read : (s : List ℕ) (c : Command) (op : ℕ) → 13 ≤ op → AsRead s c op
-unfolding AsRead commandOf Ranged rowOf rowAt rows
+unfolding AsRead commandOf
 as-read s c =
     let x = getD s 0 0 in
-    each-from (AsRead s c) 13 (λ h e r. (ltb-true x 16 (and-true (ltb x 16) true (rw (← e) at r) .0), e))
-    (each-from (AsRead s c) 14 (λ h e r. (ltb-true x 16 (and-true (ltb x 16) true (rw (← e) at r) .0), e))
-    (each-from (AsRead s c) 15 (λ h e r. (ltb-true x 16 (and-true (ltb x 16) true (rw (← e) at r) .0), e))
+    each-from (AsRead s c) 13 (λ h e r. (within (Fetch x) (subst Ranged (sym e) r), e))
+    (each-from (AsRead s c) 14 (λ h e r. (within (Store x) (subst Ranged (sym e) r), e))
+    (each-from (AsRead s c) 15 (λ h e r. (within (Add x) (subst Ranged (sym e) r), e))
     (λ n far h. absurd (let z : ⊥ = omega arith in z))))
 
 paired : (s : List ℕ) {c : Command} {n : ℕ} → read s ≡ Whole c n → usesCell c ≡ true → Paired (getD s 0 0) (getD s 1 0) c
@@ -171,7 +172,7 @@ module _ {t starts : List ℕ} {s : State} {i work k : ℕ} (ok : Known t starts
 
   pub atom-done : {b b₁ b₂ : List ℕ} {d size m r : ℕ} {f : Frame} → Lent b s → false ≡ leb work (s .steps) → ReadsAct (λ (a : Activity). a .depth) b i d
       → (d - 1 < 16 → ReadsAct (λ (a : Activity). frame a (d - 1)) b i f) → TouchesIn t starts f k b b₁ i → m ≡ k → size ≡ 2 + 2 * m → GoesOn b₁ b₂ i size r → Turned (programOf t) s i b₂ r
-  unfolding faultFor effectOf overfull width held rowOf rowAt rows isEnd at
+  unfolding faultFor effectOf overfull isEnd at
   atom-done {b₁ = b₁} {d = d} {size = size} {m = m} {f = f} l left deep frm g same z go =
       let j = few w in
       let o = some w in
@@ -180,4 +181,4 @@ module _ {t starts : List ℕ} {s : State} {i work k : ℕ} (ok : Known t starts
       let q : f ≡ top (act s i) = frm (omega arith) .reads s l j ∙ rw e in
       let x = touchAll (cellIn s) (untouched (act s i)) (here (programOf t) (top (act s i)) .inner) in
       let y : Lent b₁ (touched s i x) = rw q at (g .touches ok (rw q on-atom) s (untouched (act s i)) (rw (touched-none s i) l) j) in
-      touch-done l w left x (fault-here w) refl (λ q. omega arith) refl (omega arith) refl y go
+      touch-done l w left x (fault-here w) refl (λ q. omega arith) refl (omega (arith, span-is (Atom k))) refl y go

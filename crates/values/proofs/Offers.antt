@@ -6,9 +6,10 @@ use mathlib.Core.List.{List}
 use mathlib.Core.Bool.{false}
 use lib.Dec.{leb}
 use borrow.Author.Tests.{eq-eqb, ne-eqb}
-use Rattle.program.specs.Command.{rows, rowAt, rowOf, isEnd, width, held}
+use Rattle.program.specs.Command.{isEnd}
 use Rattle.program.specs.Bodies.{Program}
 use Rattle.program.specs.declared.command.Command.the-variants.{Offer}
+use Rattle.program.proofs.ShapeRows.{span-is}
 use Rattle.rules.specs.declared.state.Activity.{Activity}
 use Rattle.rules.specs.declared.state.Accumulator.{Accumulator}
 use Rattle.rules.specs.declared.state.State.{State}
@@ -33,7 +34,7 @@ module _ {b : List ℕ} {p : Program} {s : State} {i work n e : ℕ} (l : Lent b
   pub offered : {b₁ b₂ : List ℕ} {c : Accumulator} {reg v r : ℕ} → (e ≡ 0 → ⊥) → false ≡ leb work (s .steps) → (e - 1 < 16 → Reads (λ (t : State). accumulator t (e - 1)) b c)
       → ReadsAct (λ (a : Activity). a .register) b i reg → v ≡ reduce (c .operator) (c .value) reg
       → (e - 1 < 16 → Writes (λ (t : State). withAcc t (e - 1) (withValue (accumulator t (e - 1)) v)) b b₁) → GoesOn b₁ b₂ i 2 r → Turned p s i b₂ r
-  unfolding faultFor effectOf overfull past width held rowOf rowAt rows isEnd applied withStores withAct withSteps withAcc
+  unfolding faultFor effectOf overfull past isEnd applied withStores withAct withSteps withAcc
   offered {c = c} {reg = reg} {v = v} z left look own q put g =
       let k = entry in
       let m = bounds w n small in
@@ -41,5 +42,5 @@ module _ {b : List ℕ} {p : Program} {s : State} {i work n e : ℕ} (l : Lent b
       let x : c ≡ accumulator s (e - 1) = look h .reads s l in
       let y : reg ≡ act s i .register = own .reads s l (few w) in
       let clear : fault p s i ≡ 0 = fault-here w ∙ rw (ne-eqb (bound (act s i) n) 0 (λ o. z (k ∙ o))) in
-      let t = went w refl refl left (put h .writes s l) refl refl refl g in
+      let t = went w refl (span-is (Offer n)) left (put h .writes s l) refl refl refl g in
       done w clear (plain w left refl (λ o. omega arith)) (rw (q, x, y, k) at t) (g .number ∙ sym (calm w))

@@ -6,10 +6,11 @@ use mathlib.Core.List.{List}
 use mathlib.Core.Bool.{Bool, true, false, cond}
 use lib.Dec.{leb, eqb}
 use borrow.Author.Tests.{eq-eqb}
-use Rattle.program.specs.Command.{rows, rowAt, rowOf, isEnd, width, held}
+use Rattle.program.specs.Command.{isEnd}
 use Rattle.program.specs.Bodies.{Program}
 use Rattle.program.specs.declared.command.Command.{Command}
 use Rattle.program.specs.declared.command.Command.the-variants.{Read, Reset}
+use Rattle.program.proofs.ShapeRows.{span-is}
 use Rattle.rules.specs.declared.state.Fault.{Fault}
 use Rattle.rules.specs.declared.state.Activity.{Activity}
 use Rattle.rules.specs.declared.state.Accumulator.{Accumulator}
@@ -60,23 +61,23 @@ module _ {b b₁ b₂ : List ℕ} {p : Program} {s : State} {i work n e k r : �
     (under : n < 8 → ReadsAct (λ (a : Activity). bound a n) b i e) (g : GoesOn b₁ b₂ i 2 r) where
   pub was-read : {c : Accumulator} → Standing p s i work (Read n) → (e - 1 < 16 → Reads (λ (t : State). accumulator t (e - 1)) b c)
       → WritesAct (λ (a : Activity). withRegister a (c .value)) b b₁ i → Turned p s i b₂ r
-  unfolding faultFor effectOf overfull past width held rowOf rowAt rows isEnd
+  unfolding faultFor effectOf overfull past isEnd
   was-read {c} w look put =
       let h = under small .reads s l (few w) in
       let m = bounds w n small in
       let q : c ≡ accumulator s (e - 1) = look (omega (arith, bound-here l w small test (fault-here w) z under)) .reads s l in
       let x = withRegister (act s i) (c .value) in
       let o : act (withAct s i x) i ≡ x = act-with x l (few w) in
-      let t = went w refl refl left (put .writes s l (few w)) (ap (λ (a : Activity). a .frames) o) (ap (λ (a : Activity). a .depth) o) (steps-with s i x) g in
+      let t = went w refl (span-is (Read n)) left (put .writes s l (few w)) (ap (λ (a : Activity). a .frames) o) (ap (λ (a : Activity). a .depth) o) (steps-with s i x) g in
       done-alone w (clear l w small test (fault-here w) z) (plain w left refl (λ q. omega arith)) (past p x) (rw (q, h)) (rw (o, with-with) at t) (g .number ∙ sym (calm w))
 
   pub was-reset : {reg : ℕ} → Standing p s i work (Reset n) → ReadsAct (λ (a : Activity). a .register) b i reg
       → (e - 1 < 16 → Writes (λ (t : State). withAcc t (e - 1) (withValue (accumulator t (e - 1)) reg)) b b₁) → Turned p s i b₂ r
-  unfolding faultFor effectOf overfull past width held rowOf rowAt rows isEnd applied withStores withAct withSteps withAcc
+  unfolding faultFor effectOf overfull past isEnd applied withStores withAct withSteps withAcc
   was-reset {reg} w own put =
       let h = under small .reads s l (few w) in
       let m = bounds w n small in
       let j : e - 1 < 16 = omega (arith, bound-here l w small test (fault-here w) z under) in
       let y : reg ≡ act s i .register = own .reads s l (few w) in
-      let t = went w refl refl left (put j .writes s l) refl refl refl g in
+      let t = went w refl (span-is (Reset n)) left (put j .writes s l) refl refl refl g in
       done w (clear l w small test (fault-here w) z) (plain w left refl (λ o. omega arith)) (rw (y, h) at t) (g .number ∙ sym (calm w))

@@ -8,10 +8,11 @@ use lib.ListN.{length, getD, set, length-set}
 use lib.Seq.{getD-set-same, getD-set-other, set-set, set-getD}
 use lib.Dec.{leb, eqb}
 use borrow.Author.Tests.{eqb-true, eqb-false}
-use Rattle.program.specs.Command.{rows, rowAt, rowOf, opcode, isEnd, width, held}
+use Rattle.program.specs.Command.{opcode, isEnd, width, held}
 use Rattle.program.specs.Bodies.{Program}
 use Rattle.program.specs.declared.command.Command.{Command}
 use Rattle.program.specs.declared.command.Command.the-variants.{Fetch, Store, Add}
+use Rattle.program.proofs.ShapeRows.{span-is}
 use Rattle.rules.specs.declared.state.Activity.{Activity}
 use Rattle.rules.specs.declared.state.State.{State}
 use Rattle.rules.specs.State.{act, absent}
@@ -131,13 +132,13 @@ module _ {b : List ℕ} {p : Program} {s : State} {i work : ℕ} {c : Command} (
 
 module _ {b b₁ b₂ : List ℕ} {p : Program} {s : State} {i work d r : ℕ} (l : Lent b s) where
   pub fetched : Standing p s i work (Fetch d) → false ≡ leb work (s .steps) → Touches (Fetch d) b b₁ i → GoesOn b₁ b₂ i 2 r → Turned p s i b₂ r
-  unfolding faultFor effectOf overfull width held rowOf rowAt rows isEnd
-  fetched w left f g = touch-done l w left _ (fault-here w) refl (λ q. omega arith) refl refl refl (first-touch l w left f) g
+  unfolding faultFor effectOf overfull isEnd
+  fetched w left f g = touch-done l w left _ (fault-here w) refl (λ q. omega arith) refl (span-is (Fetch d)) refl (first-touch l w left f) g
 
   pub stored : Standing p s i work (Store d) → false ≡ leb work (s .steps) → Touches (Store d) b b₁ i → GoesOn b₁ b₂ i 2 r → Turned p s i b₂ r
-  unfolding faultFor effectOf overfull width held rowOf rowAt rows isEnd
-  stored w left f g = touch-done l w left _ (fault-here w) refl (λ q. omega arith) refl refl refl (first-touch l w left f) g
+  unfolding faultFor effectOf overfull isEnd
+  stored w left f g = touch-done l w left _ (fault-here w) refl (λ q. omega arith) refl (span-is (Store d)) refl (first-touch l w left f) g
 
   pub added : Standing p s i work (Add d) → false ≡ leb work (s .steps) → Touches (Add d) b b₁ i → GoesOn b₁ b₂ i 2 r → Turned p s i b₂ r
-  unfolding faultFor effectOf overfull width held rowOf rowAt rows isEnd
-  added w left f g = touch-done l w left _ (fault-here w) refl (λ q. omega arith) refl refl refl (first-touch l w left f) g
+  unfolding faultFor effectOf overfull isEnd
+  added w left f g = touch-done l w left _ (fault-here w) refl (λ q. omega arith) refl (span-is (Add d)) refl (first-touch l w left f) g

@@ -13,6 +13,7 @@ use Rattle.program.specs.declared.command.Command.{Command}
 use Rattle.program.specs.declared.command.Command.the-variants.{End, Next, Clock, Resume, Drop, Async, Finish, Repeat, Acc, Offer, Read, Reset, Put, Fetch, Store, Add, Atom}
 use Rattle.program.proofs.command.Command.{the-type}
 use Rattle.program.proofs.Shape.{Ranged}
+use Rattle.program.proofs.ShapeRanges.{within}
 use Rattle.rules.specs.declared.state.Status.{Status}
 use Rattle.rules.specs.declared.state.Frame.{Frame}
 use Rattle.rules.specs.declared.state.Activity.{Activity}
@@ -32,7 +33,7 @@ use Rattle.places.specs.Known.{Fit}
 use Rattle.places.proofs.Chains.{unended-below}
 use Rattle.places.proofs.Facing.{nobody-waited, guard-shut, guard-open, placed, rooted}
 use Rattle.fields.specs.Lent.{Lent, ReadsAct}
-use Rattle.moves.proofs.Ranges.{read-small, reset-small, ranged-at}
+use Rattle.moves.proofs.Ranges.{ranged-at}
 use Rattle.moves.specs.Moves.{ReadFault}
 use Rattle.waits.specs.Waits.{Inside, Behind, EndWaits, NextWaits, OwnWaits, Waits}
 
@@ -181,13 +182,13 @@ module _ {t starts b : List ℕ} {i : ℕ} {c : Command} where
     pub waits-read : c ≡ Read n → Waits t starts c b i r
     unfolding waits fault faultFor waitsAt waitsFor
     waits-read e = record {
-      tells = λ k s l w m u a. let f = fit-of k w in rw (a ∙ e) (own-tells same g l f m (read-small (subst Ranged (a ∙ e) (ranged-at s (f .known) (f .formed) m u))));
+      tells = λ k s l w m u a. let f = fit-of k w in rw (a ∙ e) (own-tells same g l f m (within (Read n) (subst Ranged (a ∙ e) (ranged-at s (f .known) (f .formed) m u))));
     }
 
     pub waits-reset : c ≡ Reset n → Waits t starts c b i r
     unfolding waits fault faultFor waitsAt waitsFor
     waits-reset e = record {
-      tells = λ k s l w m u a. let f = fit-of k w in rw (a ∙ e) (own-tells same g l f m (reset-small (subst Ranged (a ∙ e) (ranged-at s (f .known) (f .formed) m u))));
+      tells = λ k s l w m u a. let f = fit-of k w in rw (a ∙ e) (own-tells same g l f m (within (Reset n) (subst Ranged (a ∙ e) (ranged-at s (f .known) (f .formed) m u))));
     }
 
 pub waits-other : {t starts b : List ℕ} {i : ℕ} (c : Command) → OneOf others (tagOf the-type c) → Waits t starts c b i false

@@ -4,6 +4,7 @@ use mathlib.Core.List.{List, [], _∷_}
 use mathlib.Core.Bool.{cond}
 use lib.Dec.{eqb}
 use Rattle.program.specs.Command.{isEnd}
+use Rattle.program.specs.Reading.{refusalOf}
 use Rattle.program.specs.Scan.{placing, leftAfter, fitsLength, fitsBodies, scan, layoutOf, noLayout}
 use Rattle.program.specs.declared.reading.Reading.{Reading}
 use Rattle.program.specs.declared.reading.Reading.the-variants.{Whole, Unknown, Cut, Outside}
@@ -15,20 +16,13 @@ use Rattle.program.specs.declared.scan.Scanned.{Scanned}
 unfoldable pub opening : List ℕ → ℕ
 opening t = cond (fitsLength t) (cond (fitsBodies t) 0 2) 1
 
--- The number of a reading that found no whole command.
-abbrev pub refusalOf : Reading → ℕ
-refusalOf (Whole c size) = 0
-refusalOf Unknown = 3
-refusalOf Cut = 4
-refusalOf Outside = 5
-
 -- Body i of n at the start of the readings, the first of which stands at `at` and has `left` commands of an ATOM before it: its bytes, or the
 -- number of its first failing command.
 unfoldable pub extentOf : ℕ → ℕ → ℕ → ℕ → List Reading → Extent
-extentOf n i left at [] = Refused 4
-extentOf n i left at (Unknown ∷ rs) = Refused 3
-extentOf n i left at (Cut ∷ rs) = Refused 4
-extentOf n i left at (Outside ∷ rs) = Refused 5
+extentOf n i left at [] = Refused (refusalOf Cut)
+extentOf n i left at (Unknown ∷ rs) = Refused (refusalOf Unknown)
+extentOf n i left at (Cut ∷ rs) = Refused (refusalOf Cut)
+extentOf n i left at (Outside ∷ rs) = Refused (refusalOf Outside)
 extentOf n i left at (Whole c size ∷ rs) =
     let here = placing n i left c in
     let later = extentOf n i (leftAfter left c) (at + size) rs in

@@ -1,5 +1,4 @@
 -- Each arm is its command's function.
-use Rattle.moves.proofs.Ranges.{clock-small, resume-small, drop-small, acc-small, offer-small, read-small, reset-small, fetch-small, store-small, add-small}
 use Rattle.turns.proofs.Carrying.{reading, simply, ranging}
 use borrow.Author.Needs.{needs}
 use Rattle.turns.proofs.carry_out.Statement.{statement}
@@ -12,13 +11,13 @@ returns-2 : tie.Need-returns-2
 returns-2 c = let f = c .before .before in simply (f .before .before .enum-told2 .given .1) (f .next .ensures)
 
 returns-3 : tie.Need-returns-3
-returns-3 c = let f = c .before .before in ranging (f .before .before .before .command .given .1) clock-small (f .clock .ensures)
+returns-3 c = let f = c .before .before in ranging (f .before .before .before .command .given .1) (f .clock .ensures)
 
 returns-4 : tie.Need-returns-4
-returns-4 c = let f = c .before .before in ranging (f .before .before .before .command2 .given .1) resume-small (f .resume .ensures)
+returns-4 c = let f = c .before .before in ranging (f .before .before .before .command2 .given .1) (f .resume .ensures)
 
 returns-5 : tie.Need-returns-5
-returns-5 c = let f = c .before .before in ranging (f .before .before .before .command3 .given .1) drop-small (f .drop .ensures)
+returns-5 c = let f = c .before .before in ranging (f .before .before .before .command3 .given .1) (f .drop .ensures)
 
 returns-6 : tie.Need-returns-6
 returns-6 c = let f = c .before .before in reading (f .before .before .before .command4 .given .1) (f .spawn .ensures)
@@ -30,28 +29,28 @@ returns-8 : tie.Need-returns-8
 returns-8 c = let f = c .before .before in simply (f .before .before .before .command6 .given .1) (f .repeat .ensures)
 
 returns-9 : tie.Need-returns-9
-returns-9 c = let f = c .before .before in ranging (f .before .before .before .command7 .given .1) (acc-small _) (f .acc .ensures)
+returns-9 c = let f = c .before .before in ranging (f .before .before .before .command7 .given .1) (λ h. f .acc .ensures (h .0))
 
 returns-10 : tie.Need-returns-10
-returns-10 c = let f = c .before .before in ranging (f .before .before .before .command8 .given .1) offer-small (f .offer .ensures)
+returns-10 c = let f = c .before .before in ranging (f .before .before .before .command8 .given .1) (f .offer .ensures)
 
 returns-11 : tie.Need-returns-11
-returns-11 c = let f = c .before .before in ranging (f .before .before .before .command9 .given .1) read-small (f .read .ensures)
+returns-11 c = let f = c .before .before in ranging (f .before .before .before .command9 .given .1) (f .read .ensures)
 
 returns-12 : tie.Need-returns-12
-returns-12 c = let f = c .before .before in ranging (f .before .before .before .command10 .given .1) reset-small (f .reset .ensures)
+returns-12 c = let f = c .before .before in ranging (f .before .before .before .command10 .given .1) (f .reset .ensures)
 
 returns-13 : tie.Need-returns-13
 returns-13 c = let f = c .before .before in simply (f .before .before .before .command11 .given .1) (f .put .ensures)
 
 returns-14 : tie.Need-returns-14
-returns-14 c = let f = c .before .before in ranging (f .before .before .before .command12 .given .1) fetch-small (f .fetch .ensures)
+returns-14 c = let f = c .before .before in ranging (f .before .before .before .command12 .given .1) (f .fetch .ensures)
 
 returns-15 : tie.Need-returns-15
-returns-15 c = let f = c .before .before in ranging (f .before .before .before .command13 .given .1) store-small (f .store .ensures)
+returns-15 c = let f = c .before .before in ranging (f .before .before .before .command13 .given .1) (f .store .ensures)
 
 returns-16 : tie.Need-returns-16
-returns-16 c = let f = c .before .before in ranging (f .before .before .before .command14 .given .1) add-small (f .add .ensures)
+returns-16 c = let f = c .before .before in ranging (f .before .before .before .command14 .given .1) (f .add .ensures)
 
 returns-17 : tie.Need-returns-17
 returns-17 c = let f = c .before .before in reading (f .before .before .before .command15 .given .1) (f .atom .ensures)
