@@ -1,4 +1,3 @@
-pub mod NumberLaws
 pub mod Typed
 pub mod Values
 pub mod Runs

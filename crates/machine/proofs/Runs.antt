@@ -9,7 +9,7 @@ use lib.ListN.{length}
 use borrow.Author.Tests.{eq-eqb, ne-eqb}
 use Rattle.program.specs.Table.{workLimit, numberOf}
 use Rattle.program.proofs.Basic.{Bytes}
-use Rattle.machine.proofs.NumberLaws.{number-small}
+use Rattle.program.proofs.NumberLaws.{number-small}
 use Rattle.rules.specs.declared.state.State.{State}
 use Rattle.rules.specs.declared.answer.Completion.the-variants as completion
 use Rattle.rules.specs.State.{zeroState}

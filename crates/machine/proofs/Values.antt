@@ -11,7 +11,7 @@ use borrow.Author.Tests.{lt-ltb, le-ltb, eq-eqb, ne-eqb}
 use Rattle.program.specs.Bodies.{programOf}
 use Rattle.program.specs.Table.{workLimit, numberOf}
 use Rattle.program.proofs.Basic.{Bytes}
-use Rattle.machine.proofs.NumberLaws.{number-small}
+use Rattle.program.proofs.NumberLaws.{number-small}
 use Rattle.rules.specs.declared.state.Status.{Status}
 use Rattle.rules.specs.declared.state.Status.the-variants.{Running, AtBarrier, Ended, Faulted}
 use Rattle.rules.specs.declared.state.Activity.{Activity}

@@ -1,6 +1,6 @@
 // Accumulators: what a new one holds, and how one reduces.
 ghost use mathlib.Core.Path.{_≡_};
-ghost use Rattle.rules.specs.Effects.{reduce, newValue, newAccumulator, withValue};
+ghost use Rattle.rules.specs.Effects.{reduce, newValue, newAccumulator};
 use rules::state::Accumulator;
 use rules::state::Operator;
 
@@ -31,15 +31,5 @@ pub fn new_accumulator(owner: u8, operator: Operator) -> Accumulator
         value: new_value(operator),
         owner,
         operator,
-    }
-}
-
-// The accumulator with another value.
-pub fn with_value(accumulator: Accumulator, value: u32) -> Accumulator
-    ensures { λ r. ⌜ r ≡ withValue accumulator value ⌝ }
-{
-    Accumulator {
-        value,
-        ..accumulator
     }
 }

@@ -2,7 +2,7 @@
 ghost use mathlib.Core.Path.{_≡_};
 ghost use mathlib.Core.List.{[], _∷_};
 ghost use Prim.Native.Nat.{_<_, _%_, _/_};
-ghost use Rattle.program.specs.Command.{widthAt, rowOf, opcode, operandsOf, padded, width, names, named, times, held, isEnd, usesCell, operandWhere};
+ghost use Rattle.program.specs.Command.{widthAt, rowOf, opcode, operandsOf, padded, names, named, times, held, isEnd, usesCell, operandWhere};
 ghost use Rattle.program.specs.Inner.Coding.{isKind};
 use super::rows::column;
 use super::rows::slot;
@@ -121,13 +121,6 @@ fn chosen(command: Command, kind: usize, other: usize) -> usize
         return wide(bytes[2]);
     }
     other
-}
-
-// The bytes of a command, its first one included.
-pub fn width(command: Command) -> usize
-    ensures { λ r. ⌜ r ≡ width command ⌝ }
-{
-    column(opcode(command), 0)
 }
 
 // The bytes of a command byte and its operands, 1 where no command has this byte.

@@ -162,17 +162,6 @@ pub fn read(code: &[u8]) -> Reading
     }
 }
 
-// The command at an offset of the slice from a body's first command.
-pub fn fetch(code: &[u8], offset: usize) -> Reading
-    ensures { λ r. ⌜ r ≡ read (drop offset (now (code .entry))) ⌝ }
-{
-    if offset <= code.len() {
-        read(&code[offset..])
-    } else {
-        Reading::Cut
-    }
-}
-
 // The command at an offset, with nothing tried: for where a whole one is known to stand.
 pub fn known(code: &[u8], offset: usize) -> Command
     ensures { λ r. ⌜ r ≡ bare (drop offset (now (code .entry))) ⌝ }
