@@ -1,4 +1,6 @@
 pub mod Loops
 pub mod Laws
+pub mod Marking
 pub mod Numbers
+pub mod WithinLaws
 pub mod PassLaws

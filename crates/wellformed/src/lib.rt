@@ -18,6 +18,10 @@ mod clocks; // clocks.rt: the clock names of an activity
 mod unused; // unused.rt: activities that were not spawned
 mod activity; // activity.rt: activities that were spawned
 mod whole; // whole.rt: the whole state
+mod marks; // marks.rt: places, by the table's marks
+mod frames; // frames.rt: the stack of bodies in an activity's bytes
+mod names; // names.rt: the clock names in an activity's bytes
+mod within; // within.rt: an activity in its bytes
 mod lent; // lent.rt: the bytes of a state
 
 // The number 1 to 13 for which a table or a state is turned down, or 0; and the table as it was read.
