@@ -1,18 +1,21 @@
 -- Laws of the entries within an activity's bytes.
 use Prim.Native.Nat.{ℕ, zero, suc, _+_, _-_, _*_, _≤_, _<_}
 use native.Mathlib.Omega.{arith}
-use mathlib.Core.List.{List, [], _∷_}
-use mathlib.Core.Bool.{true}
+use mathlib.Core.List.{List, [], _∷_, _++_}
+use mathlib.Core.Bool.{true, _&&_}
 use mathlib.Core.Path.{_≡_, refl, sym, ap, _∙_}
 use lib.ListN.{getD, take, drop}
-use lib.Seq.{take-take, drop-drop, getD-take, getD-drop}
+use lib.Dec.{eqb}
+use borrow.Author.Tests.{ne-eqb}
+use lib.Seq.{take-take, take-add, drop-drop, getD-take, getD-drop}
 use Rattle.rules.specs.State.{frame, hold, noFrame, noHold}
-use Rattle.encoding.specs.Bytes.{numberOf, part, byteAt}
+use Rattle.encoding.specs.Bytes.{numberOf, part, byteAt, allZero}
 use Rattle.encoding.specs.Decode.{registrationOf, frameAt, holdAt, activityAt, holdEncodes}
 use Rattle.entries.specs.Entries.{frameBytes, holdBytes}
 use Rattle.encoding.proofs.PartLaws.{partsAt-at}
 use Rattle.encoding.proofs.Passed.{hold-passes}
-use Rattle.fields.proofs.Within.{lent-part}
+use Rattle.fields.proofs.Within.{lent-part, get-part}
+use Rattle.entries.proofs.ZeroLaws.{zero-append, zero-number}
 
 -- a part of the first n bytes
 inner : (k i n : ℕ) (c : List ℕ) → i + k ≤ n → take k (drop i (take n c)) ≡ take k (drop i c)
@@ -42,6 +45,24 @@ hold-bytes b k h = lent-part (16 + 8 * k) 8 b ∙ sym (part-part b 16 64 (8 * k)
 hold-is : (b : List ℕ) (k : ℕ) → k < 8 → holdAt (holdBytes b k) ≡ hold (activityAt b) k
 unfolding activityAt
 hold-is b k h = sym (partsAt-at 8 8 k holdAt (part b 16 64) noHold h)
+
+-- its bytes are all 0 where its first four and its last four are
+module _ (b : List ℕ) (k : ℕ) (h : k < 8) where
+  halves : allZero (holdBytes b k) ≡ eqb (numberOf (part b (16 + 8 * k) 4)) 0 && eqb (numberOf (part b (16 + 8 * k + 4) 4)) 0
+  halves =
+      let at = 16 + 8 * k in
+      let o : holdBytes b k ≡ part b at 4 ++ part b (at + 4) 4 = part-part b 16 64 (8 * k) 8 (omega arith) ∙ take-add 4 4 (drop at b) ∙ rw (drop-drop) in
+      ap allZero o ∙ zero-append (part b at 4) (part b (at + 4) 4) ∙ rw (zero-number (part b at 4), zero-number (part b (at + 4) 4))
+
+  module _ {x : ℕ} (is : x ≡ numberOf (take (16 + 8 * k + 4 - (16 + 8 * k)) (drop (16 + 8 * k) b))) where
+    first : eqb (numberOf (part b (16 + 8 * k) 4)) 0 ≡ eqb x 0
+    first = ap (λ n. eqb n 0) (sym (get-part b (16 + 8 * k) 4 is))
+
+    pub first-not : (x ≡ 0 → ⊥) → eqb x 0 ≡ allZero (holdBytes b k)
+    first-not n = ne-eqb x 0 n ∙ sym (halves ∙ rw (first, ne-eqb x 0 n))
+
+    pub first-zero : {y : ℕ} → y ≡ numberOf (take (16 + 8 * k + 4 + 4 - (16 + 8 * k + 4)) (drop (16 + 8 * k + 4) b)) → x ≡ 0 → eqb y 0 ≡ allZero (holdBytes b k)
+    first-zero w z = ap (λ n. eqb n 0) (get-part b (16 + 8 * k + 4) 4 w) ∙ sym (halves ∙ rw (first, z))
 
 -- a number below 65,536 is in its lower two bytes
 low-half : (b : List ℕ) → numberOf (take 4 b) ≤ 65535 → numberOf (take 2 b) ≡ numberOf (take 4 b)

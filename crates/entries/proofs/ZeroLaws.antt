@@ -29,10 +29,14 @@ use Rattle.encoding.proofs.Passed.{hold-passes, accumulator-passes, activity-pa
 -- BYTES THAT ARE 0
 
 -- two lists
-zero-append : (p q : List ℕ) → allZero p ≡ true → allZero q ≡ true → allZero (p ++ q) ≡ true
+pub zero-append : (p q : List ℕ) → allZero (p ++ q) ≡ allZero p && allZero q
 unfolding allZero
-zero-append [] q x y = y
-zero-append (a ∷ p) q x y = let h = and-true (eqb a 0) (allZero p) x in and-intro (eqb a 0) _ (h .0) (zero-append p q (h .1) y)
+zero-append [] q = refl
+zero-append (x ∷ p) q = rw (zero-append p q) (by (eqb x 0))
+  where
+    by : (y : Bool) → y && (allZero p && allZero q) ≡ (y && allZero p) && allZero q
+    by true = refl
+    by false = refl
 
 -- a part
 pub zero-take : (k : ℕ) (b : List ℕ) → allZero b ≡ true → allZero (take k b) ≡ true
@@ -54,15 +58,16 @@ unfolding allZero
 zero-each [] h = refl
 zero-each (x ∷ b) h = and-intro (eqb x 0) _ (h 0 (omega arith)) (zero-each b (λ i j. h (suc i) (suc-le-suc j)))
 
--- a number that is 0
-zero-number : (b : List ℕ) → eqb (numberOf b) 0 ≡ true → allZero b ≡ true
+-- a number is 0 where its bytes are
+pub zero-number : (b : List ℕ) → eqb (numberOf b) 0 ≡ allZero b
 unfolding allZero numberOf
-zero-number [] e = refl
-zero-number (x ∷ b) e =
-    let z = eqb-true (x + 256 * numberOf b) 0 e in
-    let x0 : x ≡ 0 = omega arith in
-    let n0 : numberOf b ≡ 0 = omega arith in
-    and-intro (eqb x 0) _ (rw x0) (zero-number b (rw n0))
+zero-number [] = refl
+zero-number (x ∷ b) = sum x (numberOf b) ∙ ap (λ q. eqb x 0 && q) (zero-number b)
+  where
+    sum : (x n : ℕ) → eqb (x + 256 * n) 0 ≡ eqb x 0 && eqb n 0
+    sum zero zero = refl
+    sum zero (suc n) = rw (ne-eqb (0 + 256 * suc n) 0 (λ e. omega arith), ne-eqb (suc n) 0 (λ e. omega arith))
+    sum (suc x) n = rw (ne-eqb (suc x + 256 * n) 0 (λ e. omega arith), ne-eqb (suc x) 0 (λ e. omega arith))
 
 -- each of n parts
 pub zero-parts : (k n : ℕ) (b : List ℕ) → length b ≡ k * n → ((i : ℕ) → i < n → allZero (part b (k * i) k) ≡ true) → allZero b ≡ true
@@ -76,7 +81,7 @@ zero-parts k (suc n) b l h =
     let m : length b ≡ k * n + k = l ∙ mul-suc k n in
     let first : allZero (take k b) ≡ true = rw mul-zero at (h 0 (omega arith)) in
     let rest = zero-parts k n (drop k b) (rw length-drop (omega arith)) (λ i j. rw (drop-drop, add-comm k (k * i), ← mul-suc) (h (suc i) (suc-le-suc j))) in
-    rw take-append-drop at (zero-append (take k b) (drop k b) first rest)
+    rw take-append-drop at (zero-append (take k b) (drop k b) ∙ and-intro (allZero (take k b)) _ first rest)
 
 -- THE LOOP THAT TESTS
 
@@ -120,14 +125,20 @@ clear-none : (b : List ℕ) → Clear b 0
 unfolding allZero
 clear-none b = record { clear = refl }
 
+-- one part more
+clear-field : {b : List ℕ} {at : ℕ} (k : ℕ) → Clear b at → allZero (part b at k) ≡ true → Clear b (at + k)
+clear-field {b} {at} k h e = record { clear = rw take-add (zero-append (take at b) (part b at k) ∙ and-intro (allZero (take at b)) _ (h .clear) e) }
+
+-- one number more
+clear-number : {b : List ℕ} {at : ℕ} (k : ℕ) → Clear b at → eqb (numberOf (part b at k)) 0 ≡ true → Clear b (at + k)
+clear-number {b} {at} k h e = clear-field k h (sym (zero-number (part b at k)) ∙ e)
+
 -- one byte more
 clear-byte : {b : List ℕ} {at : ℕ} → Clear b at → at < length b → eqb (byteAt b at) 0 ≡ true → Clear b (suc at)
 unfolding allZero
-clear-byte {b} {at} h l e = record { clear = rw (take-suc b at 0 l) (zero-append (take at b) (byteAt b at ∷ []) (h .clear) (and-intro (eqb (byteAt b at) 0) true e refl)) }
-
--- one part more
-clear-field : {b : List ℕ} {at : ℕ} (k : ℕ) → Clear b at → allZero (part b at k) ≡ true → Clear b (at + k)
-clear-field {b} {at} k h e = record { clear = rw take-add (zero-append (take at b) (part b at k) (h .clear) e) }
+clear-byte {b} {at} h l e =
+    let one = and-intro (eqb (byteAt b at) 0) true e refl in
+    record { clear = rw (take-suc b at 0 l) (zero-append (take at b) (byteAt b at ∷ []) ∙ and-intro (allZero (take at b)) _ (h .clear) one) }
 
 -- all
 clear-all : {b : List ℕ} {n : ℕ} → Clear b n → length b ≡ n → allZero b ≡ true
@@ -163,7 +174,7 @@ frame-unused = unused-by refl go
         let x = and-true (eqb (frameAt b .offset) 0) _ e in
         let y = and-true (eqb (frameAt b .body) 0) _ (x .1) in
         let z = and-true (eqb (frameAt b .runs) 0) _ (y .1) in
-        let start = clear-field 2 (clear-none b) (zero-number (part b 0 2) (x .0)) in
+        let start = clear-number 2 (clear-none b) (x .0) in
         let named = clear-byte (clear-byte (clear-byte start (omega arith) (y .0)) (omega arith) (z .0)) (omega arith) (z .1) in
         clear-all (clear-field 3 named t) l
 
@@ -177,7 +188,7 @@ hold-unused = unused-by refl go
         let h = hold-passes b t in
         let x = and-true (eqb (holdAt b .phase) 0) _ e in
         let y = and-true (eqb (holdAt b .clock) 0) _ (x .1) in
-        let start = clear-field 4 (clear-none b) (zero-number (part b 0 4) (x .0)) in
+        let start = clear-number 4 (clear-none b) (x .0) in
         let named = clear-byte (clear-byte start (omega arith) (y .0)) (omega arith) (rw (registration-back (byteAt b 5) (h .registration)) (y .1)) in
         clear-all (clear-field 2 named (h .reserved)) l
 
@@ -191,7 +202,7 @@ accumulator-unused = unused-by refl go
         let h = accumulator-passes b t in
         let x = and-true (eqb (accumulatorAt b .value) 0) _ e in
         let y = and-true (eqb (accumulatorAt b .owner) 0) _ (x .1) in
-        let start = clear-field 4 (clear-none b) (zero-number (part b 0 4) (x .0)) in
+        let start = clear-number 4 (clear-none b) (x .0) in
         let named = clear-byte (clear-byte start (omega arith) (y .0)) (omega arith) (rw (operator-back (byteAt b 5) (h .operator)) (y .1)) in
         clear-all (clear-field 18 named (h .reserved)) l
 
@@ -227,7 +238,7 @@ unused-activity b l t e =
     let v = and-true (isRunning (a .status)) _ (u .1) in
     let w = and-true (eqb (a .spawner) 0) _ (v .1) in
     let s = running (byteAt b 4) (byteAt b 5) (h .status) (v .0) in
-    let start = clear-field 4 (clear-none b) (zero-number (part b 0 4) (x .0)) in
+    let start = clear-number 4 (clear-none b) (x .0) in
     let standing = clear-byte (clear-byte start (omega arith) (s .0)) (omega arith) (s .1) in
     let spawned = clear-byte (clear-byte standing (omega arith) (w .0)) (omega arith) (w .1) in
     let n8 : length (part b 8 8) ≡ 8 = sized b 8 8 8 refl (omega arith) in

@@ -108,6 +108,21 @@ pub fn hold_whole(bytes: &[u8], k: usize) -> bool
     hold_encodes(&bytes[at..at + 8])
 }
 
+// Whether they are all 0, as those of a free name are.
+pub fn hold_zero(bytes: &[u8], k: usize) -> bool
+    ensures { λ r. ⌜ (length (now (bytes .entry)) ≡ 208 → k < 8 → r ≡ allZero (holdBytes (now (bytes .entry)) k)) ⌝ }
+{
+    if bytes.len() != 208 {
+        return false;
+    }
+    if 8 <= k {
+        return false;
+    }
+    let low = 16 + 8 * k;
+    let high = low + 4;
+    number(&bytes[low..low + 4]) == 0 && number(&bytes[high..high + 4]) == 0
+}
+
 // The standing of an activity's bytes.
 pub fn status_in(bytes: &[u8]) -> Status
     ensures { λ r. ⌜ (length (now (bytes .entry)) ≡ 208 → r ≡ activityAt (now (bytes .entry)) .status) ⌝ }

@@ -3,7 +3,7 @@ use Prim.Native.Nat.{ℕ, zero, suc, _+_, _≤_, _<_}
 use native.Mathlib.Numerals.{add-one}
 use native.Mathlib.Omega.{arith}
 use mathlib.Core.Path.{_≡_, refl, sym, _∙_}
-use mathlib.Core.Bool.{Bool, true, false, not}
+use mathlib.Core.Bool.{Bool, true, false, _&&_, not}
 use borrow.Author.Tests.{not-true, not-false}
 use Rattle.rules.specs.Search.{allBelow}
 use Rattle.rules.proofs.Tests.{true-false, decide, and-intro}
@@ -53,3 +53,13 @@ fails-so {r = r} e h = sym e ∙ not-true r h
 
 pub holds-so : {r q : Bool} → r ≡ q → not r ≡ false → q ≡ true
 holds-so {r = r} e h = sym e ∙ not-false r h
+
+-- PARTS IN USE, AND ZEROS BEHIND THEM
+
+-- A part in use fails.
+pub part-fails : {w : Bool} (m : ℕ) (f : ℕ → Bool) (z : Bool) (i : ℕ) → allBelow m f && z ≡ w → i < m → f i ≡ false → false ≡ w
+part-fails m f z i e l h = rw (sym (one-fails m f i l h)) at e
+
+-- All parts in use pass.
+pub parts-end : {r w : Bool} {m : ℕ} {f : ℕ → Bool} (z : Bool) {i : ℕ} → allBelow m f && z ≡ w → Passed m f i → m ≤ i → r ≡ z → r ≡ w
+parts-end z e h l q = q ∙ rw (sym (at-end h l)) at e

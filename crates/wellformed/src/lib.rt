@@ -18,6 +18,10 @@ mod clocks; // clocks.rt: the clock names of an activity
 mod unused; // unused.rt: activities that were not spawned
 mod activity; // activity.rt: activities that were spawned
 mod whole; // whole.rt: the whole state
+mod marks; // marks.rt: places, by the table's marks
+mod frames; // frames.rt: the stack of bodies in an activity's bytes
+mod names; // names.rt: the clock names in an activity's bytes
+mod within; // within.rt: an activity in its bytes
 mod lent; // lent.rt: the bytes of a state
 
 // The number 1 to 13 for which a table or a state is turned down, or 0; and the table as it was read.
@@ -67,8 +71,9 @@ pub fn check_state(table: &[u8], state: &[u8]) -> Checked
     }
     let marks = places(table);
     let layout = read.layout;
+    let starts = layout.starts;
     let work = read.work;
-    if state_passes(table, layout, &marks, work, state) {
+    if state_passes(table, &starts, &marks, work, state) {
         return Checked {
             number: 0,
             table: read,
