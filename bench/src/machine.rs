@@ -13,7 +13,7 @@ extern "C" {
     ) -> u8;
     fn stepmachine_build(entries: *const Entry, count: usize, table: *mut u8, n: usize, length: *mut usize) -> u8;
     fn stepmachine_commands(table: *const u8, n: usize, entries: *mut Entry, count: usize, found: *mut usize) -> u8;
-    fn stepmachine_paces(table: *const u8, n: usize, order: *const u8, k: usize, answers: *mut u8, room: usize) -> u8;
+    fn stepmachine_single(table: *const u8, n: usize, order: *const u8, k: usize, answers: *mut u8, room: usize) -> u8;
 }
 
 /// A step of the state in the buffer.
@@ -32,9 +32,9 @@ pub fn run(table: &[u8], order: &[u8], answers: &mut [u8], state: &mut [u8]) -> 
 }
 
 /// The start and a step by value for each byte of the order, with every check each time.
-pub fn paces(table: &[u8], order: &[u8], answers: &mut [u8]) -> u8 {
+pub fn single(table: &[u8], order: &[u8], answers: &mut [u8]) -> u8 {
     unsafe {
-        stepmachine_paces(table.as_ptr(), table.len(), order.as_ptr(), order.len(), answers.as_mut_ptr(), answers.len())
+        stepmachine_single(table.as_ptr(), table.len(), order.as_ptr(), order.len(), answers.as_mut_ptr(), answers.len())
     }
 }
 

@@ -12,7 +12,7 @@ pub const REPEATS: usize = 15;
 pub enum Call {
     /// A whole run: the table is read once, and no state is checked.
     Run,
-    /// A step over bytes: table, decoding, number 13, step and encoding each time.
+    /// A step over bytes: table, number 13 and step each time; the reference decodes and encodes the state too.
     Bytes,
     /// A step by value: table, number 13 and step each time.
     Value,
@@ -88,7 +88,7 @@ fn by_machine(call: Call, job: &Job) -> (f64, Made) {
         Call::Value => {
             let order = job.prefix();
             let mut answers = vec![0; order.len()];
-            let (ns, number) = timed(order.len(), || machine::paces(&job.table, order, &mut answers));
+            let (ns, number) = timed(order.len(), || machine::single(&job.table, order, &mut answers));
             assert_eq!(number, 0);
             (ns, (answers, Vec::new()))
         }
