@@ -6,38 +6,33 @@ use mathlib.Core.Bool.{Bool, true, false, cond}
 use mathlib.Core.Path.{_≡_, refl, sym, ap}
 use lib.ListN.{length, getD, take, length-append}
 use lib.Seq.{length-take-le, drop-at}
-use lib.Dec.{leb, ltb, eqb}
-use borrow.Author.Tests.{eq-eqb, ne-eqb, le-ltb}
-use Rattle.program.specs.Command.{rows, rowAt, widthAt, isEnd, opcode, commandOf}
+use lib.Dec.{ltb, eqb}
+use borrow.Author.Tests.{eq-eqb, ne-eqb}
+use Rattle.program.specs.Command.{rowAt, widthAt, isEnd, opcode}
 use Rattle.program.specs.Bodies.{programOf}
-use Rattle.program.specs.Reading.{refusalOf, allInside, read, readingsAfter, readings}
+use Rattle.program.specs.Reading.{refusalOf, read, readingsAfter, readings}
 use Rattle.program.specs.Scan.{nameFits, atomFits, placing, leftAfter, bodyAfter, verdict, fitsLength, fitsBodies, scan}
 use Rattle.program.specs.Count.{workOf, activitiesOf, clocksOf, accumulatorsOf}
 use Rattle.program.specs.Table.{overCount, numberOf}
 use Rattle.program.specs.declared.command.Command.{Command}
 use Rattle.program.specs.declared.reading.Reading.{Reading}
 use Rattle.program.specs.declared.reading.Reading.the-variants.{Whole, Unknown, Cut, Outside}
-use Rattle.program.proofs.Basic.{apart}
 use Rattle.program.proofs.RowLaws.{width-few}
+use Rattle.program.proofs.ShapeReading.{not-cut}
 use Rattle.program.proofs.ReadLaws.{Stopped, ran-out, stopped, readings-whole, readings-stop}
 use Rattle.builder.specs.Build.{bytesIn, endsIn, bytesOf, listBytes}
 use Rattle.builder.proofs.Entries.{Five, Entry, bytes, five-bytes, bytes-split}
 use Rattle.builder.proofs.ReadsBack.{entry-read}
 
 -- An entry's bytes are all there.
-uncut-read : (a e : Bool) (c : Command) (w : ℕ) → cond a Unknown (cond e (Whole c w) Outside) ≡ Cut → ⊥
-uncut-read true e c w h = apart (cc)
-uncut-read false true c w h = apart (cc)
-uncut-read false false c w h = apart (cc)
-
 entry-uncut : {l : List ℕ} → Entry l → (rest : List ℕ) → read (bytesIn l ++ rest) ≡ Cut → ⊥
-unfolding read widthAt
+unfolding widthAt
 entry-uncut (bytes op x y z w) rest h =
     let kinds = rowAt op .operands in
     let s = take (length kinds) (x ∷ y ∷ z ∷ w ∷ []) ++ rest in
     let few : length kinds + 1 ≤ 5 = width-few op in
     let long : length kinds ≤ length s = rw (length-append, length-take-le (length kinds) (x ∷ y ∷ z ∷ w ∷ []) (omega arith)) (omega arith) in
-    uncut-read (leb (length rows) op) (allInside kinds s) (commandOf op s) (length kinds + 1) (rw (bytes-split, le-ltb (length s) (length kinds) long) at h)
+    not-cut op s long (rw bytes-split at h)
 
 -- Where no whole command is read, and the bytes are not cut.
 stop-four : (n i left : ℕ) (r : Reading) {s : List ℕ} {rs : List Reading} → (refusalOf r ≡ 4 → ⊥) → (refusalOf r ≡ 0 → ⊥) → Stopped r s rs → verdict n i left rs ≡ 4 → ⊥

@@ -7,7 +7,7 @@ use mathlib.Core.Bool.{Bool, true, false, cond}
 use lib.ListN.{length, getD, take, drop}
 use lib.Seq.{drop-cons}
 use lib.Dec.{leb, ltb}
-use borrow.Author.Tests.{leb-false, ltb-false}
+use borrow.Author.Tests.{leb-false, le-ltb, ltb-false}
 use Rattle.program.specs.Command.{Operand, inside, rows, rowAt, widthAt, opcode, operandsOf, commandOf, rowOf, width}
 use Rattle.program.specs.Reading.{allInside, read}
 use Rattle.program.specs.declared.command.Command.{Command}
@@ -77,6 +77,18 @@ tests true b e c₀ c w₀ size h = apart (cc)
 tests false true e c₀ c w₀ size h = apart (cc)
 tests false false false c₀ c w₀ size h = apart (cc)
 tests false false true c₀ c w₀ size h = record { known = refl; whole = refl; good = refl; same = cc; long = cc }
+
+-- A command byte with all its operands is not cut.
+uncut-by : (a e : Bool) (c : Command) (w : ℕ) → cond a Unknown (cond e (Whole c w) Outside) ≡ Cut → ⊥
+uncut-by true e c w h = apart (cc)
+uncut-by false true c w h = apart (cc)
+uncut-by false false c w h = apart (cc)
+
+pub not-cut : (op : ℕ) (s : List ℕ) → length (rowAt op .operands) ≤ length s → read (op ∷ s) ≡ Cut → ⊥
+unfolding read
+not-cut op s h e =
+    let kinds = rowAt op .operands in
+    uncut-by (leb (length rows) op) (allInside kinds s) (commandOf op s) (length kinds + 1) (rw (le-ltb (length s) (length kinds) h) at e)
 
 -- A whole command that was read is that of its byte and of what follows, and as wide as its row says.
 pub record ReadAs (op : ℕ) (s : List ℕ) (c : Command) (size : ℕ) : Type 0 where
