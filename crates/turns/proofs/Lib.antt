@@ -1,4 +1,7 @@
 pub mod Runs
+pub mod Looking
+pub mod Readying
+pub mod Sheets
 pub mod Turning
 pub mod Following
 pub mod Carrying

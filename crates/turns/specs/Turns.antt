@@ -1,20 +1,35 @@
--- A turn of any activity, and an order of turns: what is promised of the lent bytes.
+-- A turn of any activity, an order of turns, and the ready set: what is promised of the lent bytes.
 use Prim.Native.Nat.{ℕ, _≤_, _<_}
 use mathlib.Core.Path.{_≡_}
 use mathlib.Core.List.{List, map, _++_}
 use mathlib.Core.Bool.{true}
 use lib.ListN.{length, take, drop}
-use Rattle.program.specs.Bodies.{programOf}
+use Rattle.program.specs.Bodies.{Program, programOf}
 use Rattle.program.specs.Count.{workOf}
 use Rattle.program.specs.Table.{workLimit, numberOf}
 use Rattle.rules.specs.declared.state.State.{State}
 use Rattle.rules.specs.State.{answerNumber}
 use Rattle.rules.specs.WellFormed.{wellFormed}
-use Rattle.rules.specs.Steps.{base}
+use Rattle.rules.specs.Search.{bitsBelow}
+use Rattle.rules.specs.Steps.{base, at, refusal, canStep}
 use Rattle.rules.specs.Runs.{runFrom, answersFrom}
 use Rattle.places.specs.Known.{Known}
 use Rattle.fields.specs.Lent.{Lent}
 use Rattle.moves.specs.Moves.{Turned}
+use Rattle.turns.specs.declared.look.Seen.{Seen}
+
+-- Numbers 14 to 16, or 0 and the command that activity i stands on.
+pub record Sees (p : Program) (s : State) (i : ℕ) (r : Seen) : Type 0 where
+  pub number : r .number ≡ refusal p s i
+  pub command : r .number ≡ 0 → at p s i .command ≡ r .command
+
+-- So of activity i, whichever number it is, of a well-formed state.
+pub record Looks (t starts b : List ℕ) (i : ℕ) (r : Seen) : Type 0 where
+  pub sees : Known t starts → (s : State) → Lent b s → wellFormed 65535 (programOf t) s ≡ true → Sees (programOf t) s i r
+
+-- The ready set of a well-formed state.
+pub record Readies (t starts b : List ℕ) (r : ℕ) : Type 0 where
+  pub tells : Known t starts → (s : State) → Lent b s → wellFormed 65535 (programOf t) s ≡ true → r ≡ bitsBelow 64 (canStep (programOf t) s)
 
 -- A turn of activity i, whichever number it is, of a well-formed state: numbers 14 to 17, or the one next state.
 pub record TurnsAny (t starts b c : List ℕ) (work i r : ℕ) : Type 0 where

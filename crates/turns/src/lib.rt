@@ -1,4 +1,4 @@
-// Turns in the lent bytes: the command's function for whoever does not wait, and orders of turns.
+// Turns in the lent bytes: the command's function for whoever does not wait, and orders of turns; the ready set and the standing sheet.
 ghost use Rattle.moves.specs.Moves.{TurnsIn};
 ghost use Rattle.turns.specs.Turns.{TurnsAny};
 use barriers::clock::clock;
@@ -9,12 +9,7 @@ use bodies::end::end;
 use bodies::finish::finish;
 use bodies::repeat::repeat;
 use bodies::spawn::spawn;
-use fields::activities::depth_at;
-use fields::activities::status_at;
-use fields::counts::activities_of;
-use fields::frames::frame_at;
-use parts::checks::is_ended;
-use places::command_at;
+use look::look;
 use program::command::Command;
 use values::acc::acc;
 use values::atom::atom;
@@ -25,8 +20,10 @@ use values::offer::offer;
 use values::put::put;
 use values::read::read;
 use values::reset::reset;
-use waits::waiting::waits_at;
 
+mod look; // look.rt: numbers 14 to 16, and the command
+pub mod ready; // ready.rt: the ready set
+pub mod sheet; // sheet.rt: the standing sheet
 pub mod follow; // follow.rt: an order of turns
 
 // The command that the activity stands on and does not wait at.
@@ -65,22 +62,10 @@ fn carry_out(
 pub fn turn(table: &[u8], starts: &[usize], work: u64, state: &mut [u8], i: usize) -> u8
     ensures { λ r. ⌜ TurnsAny (now (table .entry)) (now (starts .entry)) (now (state .entry)) (now (state .exit)) work i r ⌝ }
 {
-    let made = activities_of(state) as usize;
-    if made <= i {
-        return 14;
+    let seen = look(table, starts, state, i);
+    if seen.number != 0 {
+        return seen.number;
     }
-    let status = status_at(state, i);
-    if is_ended(status) {
-        return 15;
-    }
-    let depth = depth_at(state, i) as usize;
-    if depth == 0 {
-        return 15;
-    }
-    let f = frame_at(state, i, depth - 1);
-    let command = command_at(table, starts, f);
-    if waits_at(table, starts, state, i, command) {
-        return 16;
-    }
+    let command = seen.command;
     carry_out(table, starts, work, state, i, command)
 }

@@ -71,8 +71,9 @@ pub fn check_state(table: &[u8], state: &[u8]) -> Checked
     }
     let marks = places(table);
     let layout = read.layout;
+    let starts = layout.starts;
     let work = read.work;
-    if state_passes(table, layout, &marks, work, state) {
+    if state_passes(table, &starts, &marks, work, state) {
         return Checked {
             number: 0,
             table: read,

@@ -1,8 +1,8 @@
 -- The table is read first; then the state decides.
 use borrow.Author.Needs.{needs}
 use Rattle.wellformed.proofs.Loops.{so, not-so}
-use Rattle.wellformed.proofs.Numbers.{known, work-is}
-use Rattle.wellformed.proofs.PassLaws.{turned-down, fit, not-fit}
+use Rattle.wellformed.proofs.Numbers.{work-is}
+use Rattle.wellformed.proofs.PassLaws.{marked, turned-down, fit, not-fit}
 use Rattle.wellformed.proofs.check_state.Statement.{statement}
 use Rattle.wellformed.proofs.check_state.Tie as tie
 
@@ -20,25 +20,27 @@ places-requires c κs = search needs
 
 state-passes-requires : tie.Need-state-passes-requires
 state-passes-requires c κs =
-    let accepted = c .before .before .before in
+    let at = c .before .before .before .before in
+    let accepted = at .before in
     let read = accepted .before .read-table in
-    let from = accepted .before .before .before .before .args in
-    let knows = known (from .table .now) _ (read .ensures) (accepted .if1 .left) in
-    (record { known = knows; places = c .before .before .places .ensures }, work-is (from .table .now) _ (read .ensures) (accepted .if1 .left))
+    let t = accepted .before .before .before .before .args .table .now in (
+      marked t _ (read .ensures) (accepted .if1 .left) (at .places .ensures),
+      work-is t _ (read .ensures) (accepted .if1 .left),
+    )
 
 returns-2 : tie.Need-returns-2
 returns-2 c =
-    let accepted = c .before .before .before .before .before in
+    let accepted = c .before .before .before .before .before .before .before in
     let read = accepted .before .read-table in
     let from = accepted .before .before .before .before .args in
     (fit (from .table .now) _ (read .ensures) (from .state .now) (accepted .if1 .left) (so (c .before .state-passes .ensures) (c .if2 .taken)), read .ensures)
 
 returns-3 : tie.Need-returns-3
 returns-3 c =
-    let accepted = c .before .before .before .before .before in
+    let accepted = c .before .before .before .before .before .before .before in
     let read = accepted .before .read-table in
     let from = accepted .before .before .before .before .args in
     (not-fit (from .table .now) _ (read .ensures) (from .state .now) (accepted .if1 .left) (not-so (c .before .state-passes .ensures) (c .if2 .left)), read .ensures)
 
 pub check-state-spec : {M : Type 1} → statement M
-check-state-spec = tie.close (tie.spec read-table-requires returns places-requires state-passes-requires returns-2 returns-3)
+check-state-spec = tie.close (tie.spec read-table-requires returns places-requires (λ slice-aggregate-state-passes. search needs) state-passes-requires returns-2 returns-3)
