@@ -207,7 +207,7 @@ accumulator-unused = unused-by refl go
         clear-all (clear-field 18 named (h .reserved)) l
 
 -- all of n entries
-pub each-unused : {A : Type 0} {k : ℕ} {p : List ℕ → Bool} {f : List ℕ → A} {isNo : A → Bool} → Unused k p f isNo → (n : ℕ) (d : A) (b : List ℕ) → length b ≡ k * n → partsPass k n p b ≡ true
+each-unused : {A : Type 0} {k : ℕ} {p : List ℕ → Bool} {f : List ℕ → A} {isNo : A → Bool} → Unused k p f isNo → (n : ℕ) (d : A) (b : List ℕ) → length b ≡ k * n → partsPass k n p b ≡ true
     → allBelow n (λ i. isNo (getD (partsAt k n f b) i d)) ≡ true → allZero b ≡ true
 each-unused {k = k} {p = p} {f = f} {isNo = isNo} u n d b l t e =
     zero-parts k n b l

@@ -1,27 +1,14 @@
 -- Laws of the clauses of number 13: what each test of the code says of its definition.
-use Prim.Native.Nat.{ℕ, zero, suc, _+_, _-_, _≤_, _<_}
+use Prim.Native.Nat.{ℕ, zero, suc, _-_, _≤_, _<_}
 use native.Mathlib.Omega.{arith}
-use mathlib.Core.Path.{_≡_, refl, sym, ap, _∙_}
-use mathlib.Core.List.{List, []}
+use mathlib.Core.Path.{_≡_, refl, sym, _∙_}
 use mathlib.Core.Bool.{Bool, true, false, cond, _||_, _&&_, not}
-use lib.ListN.{length, getD, take, drop}
 use lib.Dec.{ltb, leb, eqb}
-use borrow.Author.Tests.{ltb-true, leb-true, lt-ltb, le-ltb, le-leb, lt-leb, ne-eqb}
+use borrow.Author.Tests.{ltb-true, leb-true, lt-ltb, ne-eqb}
 use Rattle.program.specs.declared.command.Command.{Command}
 use Rattle.program.specs.declared.command.Command.the-variants.{End, Next, Clock, Resume, Drop, Async, Finish, Repeat, Acc, Offer, Read, Reset, Put, Fetch, Store, Add, Atom}
-use Rattle.program.specs.Command.{opcode, rows, rowAt, rowOf, names, named, times, width}
-use Rattle.program.specs.declared.reading.Reading.the-variants.{Whole}
-use Rattle.program.specs.Reading.{read}
-use Rattle.program.specs.Bodies.{Program, programOf, isPlace}
-use Rattle.program.specs.Scan.{layoutOf}
-use Rattle.program.specs.Places.{placesOf}
-use Rattle.program.specs.declared.scan.Layout.{Layout}
-use Rattle.program.proofs.ShapeListed.{passes}
-use Rattle.program.proofs.ShapeLaws.{length-program, accepted}
-use Rattle.program.proofs.Located.{place-from}
-use Rattle.program.proofs.LocatedBytes.{layout-bodies, read-code, place-inside, start-inside}
-use Rattle.program.proofs.Marks.{marked}
-use Rattle.program.proofs.RangeLaws.{tail-part}
+use Rattle.program.specs.Command.{opcode, rows, rowAt, rowOf, names, named, times}
+use Rattle.program.specs.Bodies.{Program}
 use Rattle.rules.specs.declared.state.Frame.{Frame}
 use Rattle.rules.specs.declared.state.Hold.{Hold}
 use Rattle.rules.specs.declared.state.Activity.{Activity}
@@ -30,13 +17,10 @@ use Rattle.rules.specs.declared.state.Status.the-variants.{Running, AtBarrier, 
 use Rattle.rules.specs.Search.{someBelow, allBelow}
 use Rattle.rules.specs.State.{frame, top, isEnded, isAtBarrier}
 use Rattle.rules.specs.Clocks.{isHeld}
-use Rattle.rules.specs.Tree.{rest, here}
 use Rattle.rules.specs.WellFormed.{isNoFrame, runBy, isPlaced, isBottom, isStacked, frameFits, stackFits, bodyFits, spawnerFits}
 use Rattle.rules.proofs.Tests.{and-true, true-false}
 use Rattle.rules.proofs.Search.{allBelow-at}
-use Rattle.wellformed.specs.Known.{Known}
 use Rattle.wellformed.specs.Entries.{areApart}
-use Rattle.wellformed.proofs.Loops.{Passed}
 
 -- None passes where each fails.
 pub not-some : (n : ℕ) (f : ℕ → Bool) → not (someBelow n f) ≡ allBelow n (λ i. not (f i))
@@ -96,75 +80,6 @@ pub by-no-other : (made : ℕ) (c : Command) (f : Frame) (op : ℕ) → op ≡ o
 by-no-other made c f op e n m =
     rw (run-by-opcode made c f, ne-eqb (opcode c) 6 (λ q. n (e ∙ q)), ne-eqb (opcode c) 7 (λ q. m (e ∙ q)))
 
--- PLACES
-
-module _ {t : List ℕ} {layout : Layout} (h : Known t layout) where
-  -- A layout has the program's bodies, at most sixteen.
-  pub bodies-are : layout .bodies ≡ length (programOf t)
-  bodies-are = ap (λ (l : Layout). l .bodies) (h .laid) ∙ layout-bodies t
-
-  pub body-few : (b : ℕ) → b < layout .bodies → b < 16
-  body-few b l = let e = bodies-are in let k = accepted t (h .passed) .few in omega arith
-
-  -- The same bound, of the table's first byte.
-  pub body-read : (b : ℕ) → b < layout .bodies → b < getD t 0 0
-  body-read b l = let e = bodies-are in let k = length-program t in omega arith
-
-  pub starts-are : (b : ℕ) → getD (layout .starts) b 0 ≡ getD (layoutOf t .starts) b 0
-  starts-are b = ap (λ (l : Layout). getD (l .starts) b 0) (h .laid)
-
-  -- A body begins inside the table.
-  pub start-short : (b : ℕ) → b < layout .bodies → getD (layout .starts) b 0 < length t
-  start-short b l = rw (starts-are b) (start-inside t (h .passed) b (body-read b l))
-
-  -- A table is short, and so is the way to a body's first byte.
-  pub table-short : length t ≤ 2048
-  table-short = passes t (h .passed) .short
-
-  pub start-small : (b : ℕ) → b < layout .bodies → getD (layout .starts) b 0 < 2048
-  start-small b l = let k = start-short b l in let s = table-short in omega arith
-
-  -- A frame's body and offset, as the code has them.
-  module _ (f : Frame) (b o : ℕ) (is-body : b ≡ f .body) (is-offset : o ≡ f .offset) where
-    -- A body that the table lacks has no place.
-    pub no-body : layout .bodies ≤ b → false ≡ isPlaced (programOf t) f
-    unfolding isPlaced
-    no-body l = let e = bodies-are in rw (le-ltb (f .body) (length (programOf t)) (omega arith))
-
-    module _ (l : b < layout .bodies) where
-      -- A frame of a body is at a place where its offset is one.
-      pub by-offset : isPlace (getD (programOf t) b []) o ≡ isPlaced (programOf t) f
-      unfolding isPlaced
-      by-offset = let e = bodies-are in rw (is-body, is-offset, lt-ltb (f .body) (length (programOf t)) (omega arith))
-
-      -- No place lies past the table's end.
-      pub past-end : length t ≤ getD (layout .starts) b 0 + o → false ≡ isPlaced (programOf t) f
-      past-end q = by (isPlace (getD (programOf t) b []) o) refl
-        where
-          by : (p : Bool) → isPlace (getD (programOf t) b []) o ≡ p → false ≡ isPlaced (programOf t) f
-          by true e =
-              let k = place-inside t (h .passed) b (body-read b l) o (place-from (getD (programOf t) b []) o e) in
-              let s = starts-are b in
-              absurd (let y : ⊥ = omega arith in y)
-          by false e = sym (sym by-offset ∙ e)
-
-      -- The marks say where the places are.
-      pub by-mark : (marks : List ℕ) → marks ≡ placesOf t → eqb (getD marks (getD (layout .starts) b 0 + o) 0) (b + 1) ≡ isPlaced (programOf t) f
-      by-mark marks e = rw (e, starts-are b) (marked t (h .passed) b (body-read b l) o ∙ by-offset)
-
-    -- A frame at a place is of a body of the table, and its command is read there.
-    module _ (e : isPlaced (programOf t) f ≡ true) where
-      pub placed-body : b < layout .bodies
-      unfolding isPlaced
-      placed-body = let k = bodies-are in let q = ltb-true (f .body) (length (programOf t)) (and-true (ltb (f .body) (length (programOf t))) _ e .0) in omega arith
-
-      pub fetched : read (drop o (take (length t - getD (layout .starts) b 0) (drop (getD (layout .starts) b 0) t)))
-          ≡ Whole (here (programOf t) f .command) (width (here (programOf t) f .command))
-      unfolding here rest
-      fetched =
-          let q = read-code t (h .passed) b (body-read b placed-body) o (place-from (getD (programOf t) b []) o (by-offset placed-body ∙ e)) in
-          rw (tail-part t (getD (layout .starts) b 0), starts-are b, ← is-body, ← is-offset) q
-
 -- STACKS
 
 module _ (p : Program) (made : ℕ) (a : Activity) where
@@ -189,33 +104,6 @@ module _ (p : Program) (made : ℕ) (a : Activity) where
   unfolding frameFits
   on-another zero z e = absurd (z refl)
   on-another (suc d) z e = let k : suc d - 1 ≡ d = omega arith in rw (e, k)
-
-  -- Entry d of the frames, used or not.
-  unfoldable pub frameEntry : ℕ → Bool
-  frameEntry d = cond (ltb d (a .depth)) (frameFits p made a d) (isNoFrame (frame a d))
-
-  pub used-entry : (d : ℕ) → d < a .depth → frameEntry d ≡ frameFits p made a d
-  unfolding frameEntry
-  used-entry d l = rw (lt-ltb d (a .depth) l)
-
-  pub unused-entry : (d : ℕ) → a .depth ≤ d → frameEntry d ≡ isNoFrame (frame a d)
-  unfolding frameEntry
-  unused-entry d l = rw (le-ltb d (a .depth) l)
-
-  -- The frames of a stack that is not too deep are its entries.
-  pub too-deep : 16 < a .depth → false ≡ stackFits p made a
-  unfolding stackFits
-  too-deep l = rw (lt-leb (a .depth) 16 l)
-
-  pub entries : a .depth ≤ 16 → allBelow 16 frameEntry ≡ stackFits p made a
-  unfolding stackFits frameEntry
-  entries l = rw (le-leb (a .depth) 16 l)
-
-  -- The frame below one that is to be tested is at a place.
-  pub below-placed : {n d : ℕ} → Passed n frameEntry d → d < a .depth → 0 < d → isPlaced p (frame a (d - 1)) ≡ true
-  below-placed {d = d} h l z =
-      let e = allBelow-at d frameEntry (h .all) (d - 1) (omega arith) in
-      fits-placed (d - 1) (sym (used-entry (d - 1) (omega arith)) ∙ e)
 
   -- The top of a stack of an activity that waits at a barrier.
   pub record Topped : Type 0 where

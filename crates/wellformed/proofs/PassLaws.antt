@@ -1,6 +1,6 @@
 -- Number 13 over the bytes of a state: the order of the tests, and the numbers 1 to 13.
 use Prim.Native.Nat.{ℕ}
-use mathlib.Core.Path.{_≡_, refl, sym, ap, _∙_}
+use mathlib.Core.Path.{_≡_, refl, sym, _∙_}
 use mathlib.Core.List.{List}
 use mathlib.Core.Bool.{Bool, true, false, cond, _&&_}
 use lib.ListN.{length}
@@ -8,8 +8,6 @@ use lib.Dec.{leb, eqb}
 use borrow.Author.Tests.{eq-eqb, ne-eqb}
 use Rattle.program.specs.Bodies.{Program, programOf}
 use Rattle.program.specs.Table.{workLimit, tableOf}
-use Rattle.program.specs.Places.{placesOf}
-use Rattle.program.specs.declared.scan.Layout.{Layout}
 use Rattle.program.specs.Table as table
 use Rattle.program.specs.declared.table.Table.{Table}
 use Rattle.rules.specs.WellFormed.{countsFit, activityFits, activitiesFit, accumulatorsFit, wellFormed}
@@ -17,10 +15,9 @@ use Rattle.rules.specs.Steps.{unfit}
 use Rattle.encoding.specs.Bytes.{numberOf, part, byteAt, allZero, partsPass}
 use Rattle.encoding.specs.Decode.{stateOf, accumulatorEncodes, activityEncodes, fieldsEncode, encodes}
 use Rattle.wellformed.specs.declared.made.Made.{Made}
-use Rattle.wellformed.specs.Marked.{Marked}
 use Rattle.wellformed.specs.Entries.{activityIsFit, accumulatorEntry, accumulatorEntries}
 use Rattle.wellformed.specs.Passing.{passes, headPasses, accumulatorsPass, activitiesPass, unfitBytes}
-use Rattle.wellformed.proofs.Numbers.{number-is, known}
+use Rattle.wellformed.proofs.Numbers.{number-is}
 
 -- THE WHOLE
 
@@ -85,19 +82,14 @@ bytes-number n p b = by (eqb n 0) (encodes b) (wellFormed 65535 p (stateOf b))
     by false true w = refl
     by false false w = refl
 
-module _ (t : List ℕ) (x : Table) (e : x ≡ tableOf workLimit t) where
-  -- What is known of a table that is accepted.
-  pub marked : {marks : List ℕ} → x .number ≡ 0 → marks ≡ placesOf t → Marked t (x .layout .starts) marks
-  marked z m = let k = known t x e z in record { known = record { scanned = k .passed; laid = ap (λ (y : Layout). y .starts) (k .laid) }; places = m }
+module _ (t : List ℕ) (x : Table) (e : x ≡ tableOf workLimit t) (b : List ℕ) where
+  -- A table that is turned down.
+  pub turned-down : (x .number ≡ 0 → ⊥) → x .number ≡ unfitBytes (table.numberOf workLimit t) (programOf t) b
+  turned-down h = let q = number-is t x e in q ∙ rw (ne-eqb (table.numberOf workLimit t) 0 (λ z. h (q ∙ z))) at (bytes-number (table.numberOf workLimit t) (programOf t) b)
 
-  module _ (b : List ℕ) where
-    -- A table that is turned down.
-    pub turned-down : (x .number ≡ 0 → ⊥) → x .number ≡ unfitBytes (table.numberOf workLimit t) (programOf t) b
-    turned-down h = let q = number-is t x e in q ∙ rw (ne-eqb (table.numberOf workLimit t) 0 (λ z. h (q ∙ z))) at (bytes-number (table.numberOf workLimit t) (programOf t) b)
+  -- Of an accepted table the state decides.
+  pub fit : x .number ≡ 0 → passes (programOf t) b ≡ true → 0 ≡ unfitBytes (table.numberOf workLimit t) (programOf t) b
+  fit z h = rw (eq-eqb (table.numberOf workLimit t) 0 (sym (number-is t x e) ∙ z), h) at (bytes-number (table.numberOf workLimit t) (programOf t) b)
 
-    -- Of an accepted table the state decides.
-    pub fit : x .number ≡ 0 → passes (programOf t) b ≡ true → 0 ≡ unfitBytes (table.numberOf workLimit t) (programOf t) b
-    fit z h = rw (eq-eqb (table.numberOf workLimit t) 0 (sym (number-is t x e) ∙ z), h) at (bytes-number (table.numberOf workLimit t) (programOf t) b)
-
-    pub not-fit : x .number ≡ 0 → passes (programOf t) b ≡ false → 13 ≡ unfitBytes (table.numberOf workLimit t) (programOf t) b
-    not-fit z h = rw (eq-eqb (table.numberOf workLimit t) 0 (sym (number-is t x e) ∙ z), h) at (bytes-number (table.numberOf workLimit t) (programOf t) b)
+  pub not-fit : x .number ≡ 0 → passes (programOf t) b ≡ false → 13 ≡ unfitBytes (table.numberOf workLimit t) (programOf t) b
+  not-fit z h = rw (eq-eqb (table.numberOf workLimit t) 0 (sym (number-is t x e) ∙ z), h) at (bytes-number (table.numberOf workLimit t) (programOf t) b)

@@ -4,7 +4,7 @@ use native.Mathlib.Omega.{arith}
 use native.Mathlib.Numerals.{add-one}
 use mathlib.Core.Path.{_≡_, refl, sym, ap, _∙_}
 use mathlib.Core.List.{List}
-use mathlib.Core.Bool.{Bool, true, false, _&&_, not}
+use mathlib.Core.Bool.{Bool, true, false, _&&_}
 use lib.ListN.{length, drop, length-drop}
 use lib.Seq.{take-all, drop-drop, getD-take, getD-drop}
 use lib.Dec.{leb, eqb}
@@ -15,23 +15,22 @@ use Rattle.rules.specs.declared.state.Registration.{Registration}
 use Rattle.rules.specs.declared.state.Registration.the-variants.{Free, Live, Quiesced}
 use Rattle.rules.specs.Search.{allBelow}
 use Rattle.rules.specs.State.{registrationNumber, frame, hold, bound, noFrame, noHold}
-use Rattle.rules.specs.Clocks.{isHeld, holds, holdsSome}
+use Rattle.rules.specs.Clocks.{isHeld}
 use Rattle.rules.specs.WellFormed.{isPlaced, isNoHold, frameFits, stackFits, holdFits, bodyFits, barrierFits, namesFit, spawnerFits}
-use Rattle.rules.proofs.Tests.{and-true, true-false, not-true}
-use Rattle.rules.proofs.Search.{allBelow-at, allBelow-intro}
-use Rattle.places.proofs.Searches.{both}
+use Rattle.rules.proofs.Tests.{and-true, true-false}
+use Rattle.rules.proofs.Search.{allBelow-at}
 use Rattle.encoding.specs.Bytes.{part, byteAt, allZero, partsPass}
 use Rattle.encoding.specs.Decode.{holdAt, activityAt, statusPasses, frameEncodes, holdEncodes, activityEncodes}
 use Rattle.encoding.proofs.FieldLaws.{sized}
 use Rattle.encoding.proofs.PartLaws.{partsAt-at}
 use Rattle.entries.specs.Entries.{frameBytes, holdBytes}
-use Rattle.entries.proofs.ZeroLaws.{zero-take, zero-drop, frame-unused, hold-unused, each-unused}
+use Rattle.entries.proofs.ZeroLaws.{frame-unused, hold-unused}
 use Rattle.entries.proofs.JoinLaws.{joined, tested}
 use Rattle.wellformed.specs.declared.made.Made.{Made}
 use Rattle.wellformed.specs.Entries.{activityIsFit}
 use Rattle.wellformed.specs.Passing.{stackPasses, holdsPass, activityPasses}
 use Rattle.wellformed.proofs.Loops.{Passed}
-use Rattle.wellformed.proofs.Laws.{not-some, fits-placed}
+use Rattle.wellformed.proofs.Laws.{fits-placed}
 
 -- THE STACK
 
@@ -99,34 +98,6 @@ module _ (made : ℕ) (b : List ℕ) where
   pub name-free : (k : ℕ) → k < 8 → length b ≡ 208 → allZero (holdBytes b k) ≡ true → true ≡ holdTest k
   unfolding holdFits
   name-free k j l z = let h = zero-hold b k j l z in rw (h .0, unheld (hold (activityAt b) k) (h .1), h .1)
-
-  -- one that is as it should be and not held is all 0
-  none-free : (k : ℕ) → holdFits 65535 made (activityAt b) k ≡ true → not (holds (activityAt b) k) ≡ true → isNoHold (hold (activityAt b) k) ≡ true
-  unfolding holdFits
-  none-free k e n = rw (not-true (holds (activityAt b) k) n) at e
-
-  module _ (l : length b ≡ 208) where
-    -- none is held where all bytes are 0
-    zeros-unheld : allZero (part b 16 64) ≡ true → (k : ℕ) → k < 8 → not (holds (activityAt b) k) ≡ true
-    zeros-unheld z k j =
-        let h = zero-hold b k j l (zero-take 8 (drop (8 * k) (part b 16 64)) (zero-drop (8 * k) (part b 16 64) z)) in
-        ap not (unheld (hold (activityAt b) k) (h .1))
-
-    -- all bytes are 0 where none is held
-    unheld-zeros : holdsPass made b ≡ true → ((k : ℕ) → k < 8 → not (holds (activityAt b) k) ≡ true) → allZero (part b 16 64) ≡ true
-    unfolding holdsPass activityAt
-    unheld-zeros e n =
-        let h = and-true (partsPass 8 8 holdEncodes (part b 16 64)) _ e in
-        each-unused hold-unused 8 noHold (part b 16 64) (sized b 16 64 64 refl (omega arith)) (h .0)
-        (allBelow-intro 8 (λ k. isNoHold (hold (activityAt b) k)) (λ k j. none-free k (allBelow-at 8 (holdFits 65535 made (activityAt b)) (h .1) k j) (n k j)))
-
-    -- so their bytes decide whether one is held
-    pub none-held : holdsPass made b ≡ true → allZero (part b 16 64) ≡ not (holdsSome (activityAt b))
-    unfolding holdsSome
-    none-held e =
-        let f = holds (activityAt b) in
-        both (allZero (part b 16 64)) (allBelow 8 (λ k. not (f k))) (λ z. allBelow-intro 8 (λ k. not (f k)) (zeros-unheld z)) (λ n. unheld-zeros e (allBelow-at 8 (λ k. not (f k)) n))
-        ∙ sym (not-some 8 f)
 
 -- THE ACCUMULATOR NAMES
 

@@ -1,10 +1,11 @@
 // The clock names in an activity's 208 bytes.
 ghost use Prim.Native.Nat.{ℕ, _<_};
 ghost use lib.ListN.{length};
-ghost use mathlib.Core.Bool.{true, _&&_};
+ghost use mathlib.Core.Bool.{true, _&&_, not};
 ghost use mathlib.Core.Path.{_≡_};
 ghost use Rattle.rules.specs.Search.{allBelow};
 ghost use Rattle.rules.specs.State.{hold};
+ghost use Rattle.rules.specs.Clocks.{holdsSome};
 ghost use Rattle.rules.specs.WellFormed.{holdFits, namesFit};
 ghost use Rattle.encoding.specs.Bytes.{part, partsPass};
 ghost use Rattle.encoding.specs.Decode.{activityAt, holdEncodes};
@@ -83,6 +84,23 @@ pub fn names_fit(a: &[u8]) -> bool
         } else {
             return false;
         }
+    }
+    true
+}
+
+// Whether it holds no clock.
+pub fn holds_none(a: &[u8]) -> bool
+    requires { ⌜ (length (now a) ≡ 208) × (partsPass 8 8 holdEncodes (part (now a) 16 64) ≡ true) ⌝ }
+    ensures { λ r. ⌜ r ≡ not (holdsSome (activityAt (now (a .entry)))) ⌝ }
+{
+    let mut k: usize = 0;
+    while k < 8 {
+        let h = hold_in(a, k);
+        let registration = h.registration;
+        if is_held(registration) {
+            return false;
+        }
+        k += 1;
     }
     true
 }

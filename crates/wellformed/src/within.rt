@@ -8,16 +8,17 @@ ghost use Rattle.program.specs.Bodies.{programOf};
 ghost use Rattle.rules.specs.Search.{allBelow};
 ghost use Rattle.rules.specs.State.{bound};
 ghost use Rattle.rules.specs.WellFormed.{stackFits, bodyFits, barrierFits, spawnerFits};
-ghost use Rattle.encoding.specs.Decode.{activityAt};
+ghost use Rattle.encoding.specs.Bytes.{part, partsPass};
+ghost use Rattle.encoding.specs.Decode.{activityAt, holdEncodes};
 ghost use Rattle.places.specs.Known.{Known};
 ghost use Rattle.wellformed.specs.Marked.{Marked};
-ghost use Rattle.wellformed.specs.Passing.{holdsPass, activityPasses};
+ghost use Rattle.wellformed.specs.Passing.{activityPasses};
 use super::frames::stack_passes;
 use super::made::Made;
+use super::names::holds_none;
 use super::names::holds_pass;
 use super::names::names_fit;
 use entries::frame_in;
-use entries::is_zero;
 use entries::status_in;
 use entries::status_whole;
 use parts::checks::is_at_barrier;
@@ -29,14 +30,14 @@ use program::command::wide;
 // The byte of NEXT.
 const NEXT: usize = 1;
 
-// An unended activity has a body, an ended one has no body and no clock: where each name is as it should be, all their bytes are 0.
-fn body_fits(made: u8, a: &[u8]) -> bool
-    requires { ⌜ (length (now a) ≡ 208) × (holdsPass made (now a) ≡ true) ⌝ }
+// An unended activity has a body, an ended one has no body and no clock.
+fn body_fits(a: &[u8]) -> bool
+    requires { ⌜ (length (now a) ≡ 208) × (partsPass 8 8 holdEncodes (part (now a) 16 64) ≡ true) ⌝ }
     ensures { λ r. ⌜ r ≡ bodyFits (activityAt (now (a .entry))) ⌝ }
 {
     let status = status_in(a);
     if is_ended(status) {
-        return a[7] == 0 && is_zero(&a[16..80]);
+        return a[7] == 0 && holds_none(a);
     }
     0 < a[7]
 }
@@ -103,7 +104,7 @@ pub fn spawned_passes(
     if !holds_pass(made.clocks, a) {
         return false;
     }
-    if !body_fits(made.clocks, a) {
+    if !body_fits(a) {
         return false;
     }
     if !barrier_fits(table, starts, made.activities, a) {

@@ -1,8 +1,8 @@
 -- The table is read first; then the state decides.
 use borrow.Author.Needs.{needs}
 use Rattle.wellformed.proofs.Loops.{so, not-so}
-use Rattle.wellformed.proofs.Numbers.{work-is}
-use Rattle.wellformed.proofs.PassLaws.{marked, turned-down, fit, not-fit}
+use Rattle.wellformed.proofs.Numbers.{marked, work-is}
+use Rattle.wellformed.proofs.PassLaws.{turned-down, fit, not-fit}
 use Rattle.wellformed.proofs.check_state.Statement.{statement}
 use Rattle.wellformed.proofs.check_state.Tie as tie
 

@@ -6,7 +6,6 @@ use Rattle.rules.specs.State.{isEnded}
 use Rattle.rules.specs.WellFormed.{bodyFits}
 use Rattle.encoding.specs.Decode.{activityAt}
 use Rattle.wellformed.proofs.Loops.{so, not-so}
-use Rattle.wellformed.proofs.WithinLaws.{none-held}
 use Rattle.wellformed.proofs.within.body_fits.Statement.{statement}
 use Rattle.wellformed.proofs.within.body_fits.Tie as tie
 
@@ -16,11 +15,7 @@ ended c = c .is-ended .ensures ∙ ap isEnded (c .before .status-in .ensures (c 
 
 returns : tie.Need-returns
 unfolding bodyFits activityAt
-returns c =
-    let here = c .before .before .before .before .before in
-    let start = here .before .before .before in
-    rw (so (ended here) (c .before .before .before .before .if1 .taken), eq-eqb _ _ (c .before .before .if2 .taken))
-    (c .is-zero .ensures ∙ none-held (start .args .made) (start .args .a .now) (start .pre .0) (start .pre .1))
+returns c = rw (so (ended (c .before .before .before .before)) (c .before .before .before .if1 .taken), eq-eqb _ _ (c .before .if2 .taken)) (c .holds-none .ensures)
 
 returns-2 : tie.Need-returns-2
 unfolding bodyFits activityAt
@@ -34,5 +29,4 @@ pub body-fits-spec : {M : Type 1} → statement M
 body-fits-spec =
     tie.close
     (tie.spec (λ status-in-requires κs. search needs) (λ is-ended-requires κs. search needs) (λ shared-slice-read-if2. search needs)
-    (λ sub-is-zero. search needs) (λ part-is-zero-start. search needs) (λ part-is-zero-end. search needs) (λ is-zero-requires κs. search needs)
-    returns returns-2 (λ shared-slice-read-result. search needs) returns-3)
+    (λ holds-none-requires κs. search needs) returns returns-2 (λ shared-slice-read-result. search needs) returns-3)

@@ -76,7 +76,7 @@ returns-3 c =
     rw (status c1, stack c2, no) at (spawned (programOf (start .args .table .now)) (start .args .made) (start .args .i) (start .args .a .now))
 
 body-fits-requires : tie.Need-body-fits-requires
-body-fits-requires c κs = (from3 c .pre .1, names c)
+body-fits-requires c κs = let start = from3 c in (start .pre .1, holds-whole (start .args .made .clocks) (start .args .a .now) (names c))
 
 returns-4 : tie.Need-returns-4
 returns-4 c =

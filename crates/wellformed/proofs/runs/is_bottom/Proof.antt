@@ -1,8 +1,8 @@
 -- The two tests are those of the definition.
 use borrow.Author.Tests.{eq-eqb, ne-eqb}
 use Rattle.rules.specs.WellFormed.{isBottom}
-use Rattle.wellformed.proofs.stack.is_bottom.Statement.{statement}
-use Rattle.wellformed.proofs.stack.is_bottom.Tie as tie
+use Rattle.wellformed.proofs.runs.is_bottom.Statement.{statement}
+use Rattle.wellformed.proofs.runs.is_bottom.Tie as tie
 
 returns : tie.Need-returns
 unfolding isBottom

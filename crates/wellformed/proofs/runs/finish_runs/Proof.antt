@@ -2,8 +2,8 @@
 use borrow.Author.Needs.{needs}
 use borrow.Author.Tests.{eq-eqb, ne-eqb}
 use mathlib.Core.Path.{sym, _∙_}
-use Rattle.wellformed.proofs.stack.finish_runs.Statement.{statement}
-use Rattle.wellformed.proofs.stack.finish_runs.Tie as tie
+use Rattle.wellformed.proofs.runs.finish_runs.Statement.{statement}
+use Rattle.wellformed.proofs.runs.finish_runs.Tie as tie
 
 wide-requires : tie.Need-wide-requires
 wide-requires c κs = search needs

@@ -2,8 +2,8 @@
 use borrow.Author.Needs.{needs}
 use mathlib.Core.Path.{_∙_}
 use Rattle.wellformed.proofs.Laws.{by-finish, by-repeat, by-no-other}
-use Rattle.wellformed.proofs.stack.run_by.Statement.{statement}
-use Rattle.wellformed.proofs.stack.run_by.Tie as tie
+use Rattle.wellformed.proofs.runs.run_by.Statement.{statement}
+use Rattle.wellformed.proofs.runs.run_by.Tie as tie
 
 opcode-requires : tie.Need-opcode-requires
 opcode-requires c κs = search needs

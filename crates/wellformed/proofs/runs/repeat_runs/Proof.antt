@@ -3,8 +3,8 @@ use borrow.Author.Needs.{needs}
 use native.Mathlib.Omega.{arith}
 use borrow.Author.Tests.{le-leb, lt-leb, eq-eqb, ne-eqb}
 use mathlib.Core.Path.{sym, _∙_}
-use Rattle.wellformed.proofs.stack.repeat_runs.Statement.{statement}
-use Rattle.wellformed.proofs.stack.repeat_runs.Tie as tie
+use Rattle.wellformed.proofs.runs.repeat_runs.Statement.{statement}
+use Rattle.wellformed.proofs.runs.repeat_runs.Tie as tie
 
 wide-requires : tie.Need-wide-requires
 wide-requires c κs = search needs
