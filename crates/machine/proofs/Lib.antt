@@ -1,5 +1,6 @@
 pub mod NumberLaws
 pub mod Typed
+pub mod Kept
 pub mod Values
 pub mod Runs
 pub mod Sheets
