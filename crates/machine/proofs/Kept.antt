@@ -4,58 +4,44 @@ use native.Mathlib.Omega.{arith}
 use mathlib.Core.Path.{_≡_, refl, sym, ap, _∙_}
 use mathlib.Core.List.{List}
 use mathlib.Core.Bool.{true}
-use lib.Dec.{eqb}
-use lib.ListN.{length, getD, take, drop, set, length-drop}
-use lib.Seq.{take-all, drop-drop, getD-set-same, getD-set-other, set-getD, set-set}
-use borrow.Author.Tests.{eqb-true}
+use lib.ListN.{length, getD, take, drop, set, length-drop, length-set}
+use lib.Seq.{take-all, drop-drop, set-out, getD-set-same, getD-set-other, set-getD, set-set}
 use Rattle.rules.specs.declared.state.Activity.{Activity}
+use Rattle.rules.specs.declared.state.Accumulator.{Accumulator}
 use Rattle.rules.specs.declared.state.State.{State}
 use Rattle.rules.specs.State.{absent, act}
 use Rattle.rules.specs.Effects.{Spawned, nobody, one, Effect, withSpawned, applied}
-use Rattle.rules.proofs.Tests.{and-true}
-use Rattle.encoding.specs.Bytes.{numberOf, part}
-use Rattle.encoding.specs.Decode.{limit, activityAt, activityEncodes, fieldsEncode, encodes, stateOf}
+use Rattle.encoding.specs.Bytes.{numberOf, part, byteAt, partsAt}
+use Rattle.encoding.specs.Decode.{activityAt, accumulatorAt, activityEncodes, fieldsEncode, stateOf}
 use Rattle.encoding.proofs.FieldLaws.{sized}
 use Rattle.encoding.proofs.PartLaws.{partsAt-at, partsPass-at}
-use Rattle.encoding.proofs.Passed.{StatePasses, state-passes}
+use Rattle.encoding.proofs.Passed.{state-passes}
 use Rattle.machine.specs.After.{after}
 
 -- THE BYTES
 
-module _ (b : List ℕ) (e : encodes b ≡ true) where
-  -- They are as many as a state has, and pass its tests.
-  pub whole : length b ≡ 13776
-  unfolding encodes
-  whole = eqb-true (length b) 13776 (and-true (eqb (length b) 13776) (fieldsEncode b) e .0)
+-- Those of a state: the 208 of an entry.
+module _ (b : List ℕ) (n : length b ≡ 13776) (e : fieldsEncode b ≡ true) (i : ℕ) (h : i < 64) where
+  abbrev mine : List ℕ
+  mine = take (464 + 208 * i + 208 - (464 + 208 * i)) (drop (464 + 208 * i) b)
 
-  passes : StatePasses b
-  unfolding encodes
-  passes = state-passes b (and-true (eqb (length b) 13776) (fieldsEncode b) e .1)
+  off : 464 + 208 * i + 208 - (464 + 208 * i) ≡ 208
+  off = omega arith
 
-  pub steps-few : numberOf (part b 4 4) ≤ limit
-  steps-few = passes .steps
+  stand : mine ≡ part (part b 464 13312) (208 * i) 208
+  stand =
+      let all : take 13312 (drop 464 b) ≡ drop 464 b = take-all 13312 (drop 464 b) (rw length-drop (omega arith)) in
+      rw (off, all, drop-drop)
 
-  -- The 208 bytes of an entry.
-  module _ (i : ℕ) (h : i < 64) where
-    abbrev mine : List ℕ
-    mine = take (464 + 208 * i + 208 - (464 + 208 * i)) (drop (464 + 208 * i) b)
+  pub entry-long : length mine ≡ 208
+  entry-long = sized b (464 + 208 * i) 208 (464 + 208 * i + 208 - (464 + 208 * i)) off (omega arith)
 
-    stand : mine ≡ part (part b 464 13312) (208 * i) 208
-    stand =
-        let k : 464 + 208 * i + 208 - (464 + 208 * i) ≡ 208 = omega arith in
-        let n = whole in
-        let all : take 13312 (drop 464 b) ≡ drop 464 b = take-all 13312 (drop 464 b) (rw length-drop (omega arith)) in
-        rw (k, all, drop-drop)
+  pub entry-encodes : activityEncodes mine ≡ true
+  entry-encodes = rw stand (partsPass-at 208 64 i activityEncodes (part b 464 13312) (state-passes b e .acts) h)
 
-    pub entry-long : length mine ≡ 208
-    entry-long = let n = whole in sized b (464 + 208 * i) 208 _ (omega arith) (omega arith)
-
-    pub entry-encodes : activityEncodes mine ≡ true
-    entry-encodes = rw stand (partsPass-at 208 64 i activityEncodes (part b 464 13312) (passes .acts) h)
-
-    pub entry-is : activityAt mine ≡ act (stateOf b) i
-    unfolding stateOf
-    entry-is = rw stand (sym (partsAt-at 208 64 i activityAt (part b 464 13312) absent h))
+  pub entry-is : activityAt mine ≡ act (stateOf b) i
+  unfolding stateOf
+  entry-is = rw stand (sym (partsAt-at 208 64 i activityAt (part b 464 13312) absent h))
 
 -- THE ENTRIES
 
@@ -78,3 +64,19 @@ module _ (s : State) (i : ℕ) (e : Effect) (n : length (s .acts) ≡ 64) (h : i
   pub together : after s (applied s i e) i ≡ applied s i e
   unfolding after applied
   together = rw (own-entry (s .acts) i (s .activities) (e .self) (e .spawned) (omega arith) h, again (set (s .acts) i (e .self)) (s .activities) (e .spawned))
+
+-- FIELD BY FIELD
+
+module _ (s : State) (b : List ℕ) (i : ℕ) {n : ℕ} {cells : List ℕ} {accs : List Accumulator} {a : Activity} (f : n ≡ numberOf (part b 4 4)) (g : cells ≡ partsAt 4 16 numberOf (part b 16 64))
+    (h : accs ≡ partsAt 24 16 accumulatorAt (part b 80 384)) (o : a ≡ act (stateOf b) i) where
+  abbrev made : List Activity → State
+  made l = record { cells = cells; acts = l; accs = accs; steps = n; activities = byteAt b 1; clocks = byteAt b 2; accumulators = byteAt b 3 }
+
+  -- With the entry behind those there were.
+  pub one-free : {k : ℕ} {x : Activity} → k ≡ s .activities → x ≡ act (stateOf b) k → made (set (set (s .acts) i a) k x) ≡ after s (stateOf b) i
+  unfolding after stateOf
+  one-free q p = rw (f, g, h, o, p, q)
+
+  -- Where no entry is free, none is stored.
+  pub none-free : {k : ℕ} → length (s .acts) ≡ 64 → k ≡ s .activities → 64 ≤ k → made (set (s .acts) i a) ≡ after s (stateOf b) i
+  none-free {k} l q m = ap made (sym (set-out (set (s .acts) i a) k (act (stateOf b) k) (rw (length-set (s .acts) i a, l) m))) ∙ one-free q refl

@@ -28,7 +28,8 @@ use Rattle.rules.proofs.WellFormedFacts.{facts}
 use Rattle.rules.proofs.StepLaws.{Outcome, unfits, refuses, overflows, takes, outcome, refusal-number}
 use Rattle.encoding.specs.declared.Decoded.{Decoded}
 use Rattle.encoding.specs.Encode.{encodeState}
-use Rattle.encoding.specs.Decode.{encodes, stateOf, decodedOf}
+use Rattle.encoding.specs.Decode.{stateOf, fieldsEncode, encodes, decodedOf}
+use Rattle.encoding.proofs.FromState.{state-round}
 use Rattle.encoding.proofs.StateLaws.{encodeState-encodes, stateOf-encodeState, encodeState-bytes}
 use Rattle.fits.proofs.Fitting.{Fitting, step-fits}
 use Rattle.fields.specs.Lent.{Lent, Reads, ReadsAct}
@@ -151,12 +152,12 @@ module _ (t : List ℕ) {s : State} (f : Fitting s) (i : ℕ) {n : ℕ} {b c : L
     fits-after : Fitting (step base t s i .state)
     fits-after = step-fits t y s f i
 
-    -- Its bytes encode a state, and the activity has an entry there.
-    pub after-encodes : encodes c ≡ true
-    after-encodes = rw bytes-are (encoded fits-after)
-
-    pub has-entry : i < 64
-    has-entry = let k = accepts h in omega (arith, k .0, k .1 .0)
+    -- Its bytes are those of a state, and the activity has an entry there.
+    pub has-entry : (length c ≡ 13776) × (fieldsEncode c ≡ true) × (i < 64)
+    has-entry =
+        let k = accepts h in
+        let r = state-round (fits-after .sized) (fits-after .fits) in
+        (rw bytes-are (r .size), rw bytes-are (r .passes), omega (arith, k .0, k .1))
 
     pub taken : {z : State} {r : Status} → z ≡ after s (stateOf c) i → ReadsAct (λ (a : Activity). a .status) c i r → stepped (Accepted r) z ≡ step base t s i
     taken {z} {r} o m =
@@ -164,7 +165,7 @@ module _ (t : List ℕ) {s : State} (f : Fitting s) (i : ℕ) {n : ℕ} {b c : L
         let d = effect (programOf t) s i in
         let b : stateOf c ≡ applied s i d = ap stateOf bytes-are ∙ back fits-after ∙ ap (λ (x : Stepped). x .state) v in
         let k : z ≡ applied s i d = o ∙ ap (λ (x : State). after s x i) b ∙ together s i d (f .sized .acts64) u few in
-        let l : r ≡ act (step base t s i .state) i .status = m .reads (step base t s i .state) (rw bytes-are (lent fits-after)) has-entry in
+        let l : r ≡ act (step base t s i .state) i .status = m .reads (step base t s i .state) (rw bytes-are (lent fits-after)) (has-entry .2) in
         let q : act (step base t s i .state) i ≡ d .self = ap (λ (x : Stepped). act (x .state) i) v ∙ own-after s i d (f .sized .acts64) u few in
         ap (λ (x : State). stepped (Accepted r) x) k ∙ ap (λ (x : Status). stepped (Accepted x) (applied s i d)) (l ∙ ap (λ (x : Activity). x .status) q) ∙ sym v
 

@@ -2,8 +2,9 @@
 ghost use mathlib.Core.Path.{_≡_};
 ghost use mathlib.Core.Bool.{true};
 ghost use Prim.Native.Nat.{_<_};
+ghost use lib.ListN.{length};
 ghost use Rattle.rules.specs.State.{act};
-ghost use Rattle.encoding.specs.Decode.{encodes, stateOf};
+ghost use Rattle.encoding.specs.Decode.{stateOf, fieldsEncode};
 ghost use Rattle.machine.specs.After.{after};
 use encoding::accumulators::accumulators_at;
 use encoding::activities::activity_at;
@@ -15,7 +16,8 @@ use rules::state::State;
 
 // An activity of the state that bytes encode.
 fn entry_at(bytes: &[u8], i: usize) -> Activity
-    requires { ⌜ encodes (now bytes) ≡ true ⌝ }
+    requires { ⌜ length (now bytes) ≡ 13776 ⌝ }
+    requires { ⌜ fieldsEncode (now bytes) ≡ true ⌝ }
     requires { ⌜ i < 64 ⌝ }
     ensures { λ r. ⌜ r ≡ act (stateOf (now (bytes .entry))) i ⌝ }
 {
@@ -25,7 +27,8 @@ fn entry_at(bytes: &[u8], i: usize) -> Activity
 
 // The state after a step of activity i. Of the entries it can have changed that one and the next free one.
 pub fn state_after(s: State, bytes: &[u8], i: usize) -> State
-    requires { ⌜ encodes (now bytes) ≡ true ⌝ }
+    requires { ⌜ length (now bytes) ≡ 13776 ⌝ }
+    requires { ⌜ fieldsEncode (now bytes) ≡ true ⌝ }
     requires { ⌜ i < 64 ⌝ }
     ensures { λ r. ⌜ r ≡ after s (stateOf (now (bytes .entry))) i ⌝ }
 {
