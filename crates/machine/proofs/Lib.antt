@@ -1,4 +1,5 @@
 pub mod Typed
+pub mod Kept
 pub mod Values
 pub mod Runs
 pub mod Sheets

@@ -5,8 +5,7 @@ use mathlib.Core.Path.{_≡_, refl, sym, ap, _∙_}
 use mathlib.Core.List.{List}
 use mathlib.Core.Bool.{Bool, true, false, cond, _&&_}
 use lib.Dec.{eqb, ltb}
-use lib.ListN.{length, getD, set}
-use lib.Seq.{getD-set-same, getD-set-other}
+use lib.ListN.{length}
 use borrow.Author.Tests.{lt-ltb, le-ltb, eq-eqb, ne-eqb}
 use Rattle.program.specs.Bodies.{programOf}
 use Rattle.program.specs.Table.{workLimit, numberOf}
@@ -19,8 +18,8 @@ use Rattle.rules.specs.declared.state.State.{State}
 use Rattle.rules.specs.declared.answer.Answer.the-variants.{Accepted, Refused}
 use Rattle.rules.specs.declared.answer.Stepped.{Stepped}
 use Rattle.rules.specs.declared.answer.Ready.{Ready}
-use Rattle.rules.specs.State.{zeroState, faultNumber, statusAnswer, answerNumber, absent, act}
-use Rattle.rules.specs.Effects.{Spawned, nobody, one, Effect, withSpawned, applied}
+use Rattle.rules.specs.State.{zeroState, faultNumber, statusAnswer, answerNumber, act}
+use Rattle.rules.specs.Effects.{applied}
 use Rattle.rules.specs.WellFormed.{wellFormed}
 use Rattle.rules.specs.Steps.{base, startState, startWith, start, effect, refusal, unfit, stepped, step, ready, noSheet, sheetOf, registrations, registrationsNumber}
 use Rattle.rules.proofs.Tests.{true-false}
@@ -29,7 +28,8 @@ use Rattle.rules.proofs.WellFormedFacts.{facts}
 use Rattle.rules.proofs.StepLaws.{Outcome, unfits, refuses, overflows, takes, outcome, refusal-number}
 use Rattle.encoding.specs.declared.Decoded.{Decoded}
 use Rattle.encoding.specs.Encode.{encodeState}
-use Rattle.encoding.specs.Decode.{encodes, stateOf, decodedOf}
+use Rattle.encoding.specs.Decode.{stateOf, fieldsEncode, encodes, decodedOf}
+use Rattle.encoding.proofs.FromState.{state-round}
 use Rattle.encoding.proofs.StateLaws.{encodeState-encodes, stateOf-encodeState, encodeState-bytes}
 use Rattle.fits.proofs.Fitting.{Fitting, step-fits}
 use Rattle.fields.specs.Lent.{Lent, Reads, ReadsAct}
@@ -38,6 +38,8 @@ use Rattle.calls.specs.Calls.{stepNumber, stepBytes, readyNumber, readySet}
 use Rattle.calls.proofs.Lending.{lent-state}
 use Rattle.calls.proofs.Stepping.{stepBytes-encode}
 use Rattle.machine.specs.Numbers.{isRefusal}
+use Rattle.machine.specs.After.{after}
+use Rattle.machine.proofs.Kept.{own-after, together}
 
 -- THE BYTES OF A STATE
 
@@ -101,18 +103,6 @@ unfit-small n true true e l = rw e (omega arith)
 unfit-small n false true e l = rw e (omega arith)
 unfit-small n w false e l = rw e (omega arith)
 
--- Its own entry is as the effect says.
-own-after : (s : State) (i : ℕ) (e : Effect) → length (s .acts) ≡ 64 → i < s .activities → s .activities ≤ 64 → act (applied s i e) i ≡ e .self
-unfolding applied
-own-after s i e n h m = go (e .spawned)
-  where
-    own : getD (set (s .acts) i (e .self)) i absent ≡ e .self
-    own = getD-set-same (s .acts) i (e .self) absent (omega arith)
-
-    go : (x : Spawned) → getD (withSpawned (s .activities) (set (s .acts) i (e .self)) x) i absent ≡ e .self
-    go nobody = own
-    go (one c) = getD-set-other (set (s .acts) i (e .self)) (s .activities) i c absent (λ q. omega arith) ∙ own
-
 module _ (t : List ℕ) {s : State} (f : Fitting s) (i : ℕ) {n : ℕ} {b c : List ℕ} (q : b ≡ encodeState s) (e : n ≡ stepNumber t b i) (g : c ≡ stepBytes t b i) where
   number-is : n ≡ answerNumber (step base t s i .answer)
   unfolding stepNumber
@@ -143,33 +133,41 @@ module _ (t : List ℕ) {s : State} (f : Fitting s) (i : ℕ) {n : ℕ} {b c : L
           let k : n ≡ statusAnswer (effect (programOf t) s i .self .status) = number-is ∙ ap (λ (y : Stepped). answerNumber (y .answer)) d in
           absurd (true-false (isRefusal n) h (rw k (taken-is (effect (programOf t) s i .self .status))))
 
-  -- It is taken.
-  pub taken : {d : Decoded} {r : Status} → Bytes t → isRefusal n ≡ false → d ≡ decodedOf c → ReadsAct (λ (a : Activity). a .status) c i r
-      → stepped (Accepted r) (d .state) ≡ step base t s i
-  taken {d} {r} y h o m = go (outcome base t s i)
+  -- It is taken: the activity is one of those there are, and what it does is done.
+  accepts : isRefusal n ≡ false
+      → (i < s .activities) × (s .activities ≤ 64) × (step base t s i ≡ stepped (Accepted (effect (programOf t) s i .self .status)) (applied s i (effect (programOf t) s i)))
+  accepts h = go (outcome base t s i)
     where
-      after : Fitting (step base t s i .state)
-      after = step-fits t y s f i
+      never : (k : ℕ) → (k ≡ 0 → ⊥) → k ≤ 17 → step base t s i ≡ stepped (Refused k) s → ⊥
+      never k z l w = let v : n ≡ k = number-is ∙ ap (λ (x : Stepped). answerNumber (x .answer)) w in true-false (isRefusal n) (rw v (refusal-is k z l)) h
 
-      never : (k : ℕ) → (k ≡ 0 → ⊥) → k ≤ 17 → step base t s i ≡ stepped (Refused k) s → stepped (Accepted r) (d .state) ≡ step base t s i
-      never k z l w =
-          let v : n ≡ k = number-is ∙ ap (λ (x : Stepped). answerNumber (x .answer)) w in
-          absurd (true-false (isRefusal n) (rw v (refusal-is k z l)) h)
+      go : Outcome base t s i
+          → (i < s .activities) × (s .activities ≤ 64) × (step base t s i ≡ stepped (Accepted (effect (programOf t) s i .self .status)) (applied s i (effect (programOf t) s i)))
+      go (unfits k a z w) = let l = unfits-small in absurd (never k z (omega arith) w)
+      go (refuses k a z w) = let l = refusal-number (programOf t) s i (λ x. z (sym a ∙ x)) .1 in absurd (never k z (omega arith) w)
+      go (overflows a x w) = absurd (never 17 (λ z. omega arith) (omega arith) w)
+      go (takes a w z x v) = (turn (programOf t) s i z .spawned, facts 65535 (programOf t) s w .acts64, v)
 
-      go : Outcome base t s i → stepped (Accepted r) (d .state) ≡ step base t s i
-      go (unfits k a z w) = let l = unfits-small in never k z (omega arith) w
-      go (refuses k a z w) = let l = refusal-number (programOf t) s i (λ x. z (sym a ∙ x)) .1 in never k z (omega arith) w
-      go (overflows a x w) = never 17 (λ z. omega arith) (omega arith) w
-      go (takes a w z x v) =
-          let u = turn (programOf t) s i z .spawned in
-          let few = facts 65535 (programOf t) s w .acts64 in
-          let k : d .state ≡ step base t s i .state = decoded after o bytes-are in
-          let l : r ≡ act (step base t s i .state) i .status = m .reads (step base t s i .state) (rw bytes-are (lent after)) (omega arith) in
-          let o : act (step base t s i .state) i ≡ effect (programOf t) s i .self =
-              ap (λ (y : Stepped). act (y .state) i) v ∙ own-after s i (effect (programOf t) s i) (f .sized .acts64) u few in
-          ap (λ (x : State). stepped (Accepted r) x) (k ∙ ap (λ (y : Stepped). y .state) v)
-          ∙ ap (λ (x : Status). stepped (Accepted x) (applied s i (effect (programOf t) s i))) (l ∙ ap (λ (y : Activity). y .status) o)
-          ∙ sym v
+  module _ (y : Bytes t) (h : isRefusal n ≡ false) where
+    fits-after : Fitting (step base t s i .state)
+    fits-after = step-fits t y s f i
+
+    -- Its bytes are those of a state, and the activity has an entry there.
+    pub has-entry : (length c ≡ 13776) × (fieldsEncode c ≡ true) × (i < 64)
+    has-entry =
+        let k = accepts h in
+        let r = state-round (fits-after .sized) (fits-after .fits) in
+        (rw bytes-are (r .size), rw bytes-are (r .passes), omega (arith, k .0, k .1))
+
+    pub taken : {z : State} {r : Status} → z ≡ after s (stateOf c) i → ReadsAct (λ (a : Activity). a .status) c i r → stepped (Accepted r) z ≡ step base t s i
+    taken {z} {r} o m =
+        let (u, few, v) = accepts h in
+        let d = effect (programOf t) s i in
+        let b : stateOf c ≡ applied s i d = ap stateOf bytes-are ∙ back fits-after ∙ ap (λ (x : Stepped). x .state) v in
+        let k : z ≡ applied s i d = o ∙ ap (λ (x : State). after s x i) b ∙ together s i d (f .sized .acts64) u few in
+        let l : r ≡ act (step base t s i .state) i .status = m .reads (step base t s i .state) (rw bytes-are (lent fits-after)) (has-entry .2) in
+        let q : act (step base t s i .state) i ≡ d .self = ap (λ (x : Stepped). act (x .state) i) v ∙ own-after s i d (f .sized .acts64) u few in
+        ap (λ (x : State). stepped (Accepted r) x) k ∙ ap (λ (x : Status). stepped (Accepted x) (applied s i d)) (l ∙ ap (λ (x : Activity). x .status) q) ∙ sym v
 
 -- THE READY SET
 

@@ -3,6 +3,7 @@ ghost use mathlib.Core.Path.{_≡_};
 ghost use Rattle.rules.specs.Steps.{base, start, step, ready, registrations, registrationsNumber};
 ghost use Rattle.machine.specs.Ran.{Runs};
 ghost use Rattle.machine.specs.Numbers.{isRefusal};
+use after::state_after;
 use encoding::decode;
 use encoding::encode;
 use fields::activities::status_at;
@@ -20,6 +21,7 @@ use sheet::sheet_of;
 use wellformed::check_state;
 
 mod sheet; // sheet.rt: the standing sheet by value
+mod after; // after.rt: the state after a step
 
 // The start state of a table: numbers 1 to 12.
 pub fn start(table: &[u8]) -> Stepped
@@ -58,12 +60,9 @@ pub fn step(table: &[u8], s: State, activity: usize) -> Stepped
             state: s,
         };
     }
-    let status = status_at(&bytes, activity);
-    let done = decode(&bytes);
-    let state = done.state;
     Stepped {
-        answer: Answer::Accepted(status),
-        state,
+        answer: Answer::Accepted(status_at(&bytes, activity)),
+        state: state_after(s, &bytes, activity),
     }
 }
 
