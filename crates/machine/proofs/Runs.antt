@@ -21,7 +21,7 @@ use Rattle.rules.proofs.Demand3.{at-every-point}
 use Rattle.encoding.specs.declared.Decoded.{Decoded}
 use Rattle.encoding.specs.Decode.{decodedOf}
 use Rattle.fits.proofs.Fitting.{run-fits}
-use Rattle.calls.specs.Calls.{tableFirst, fitsState, fitsRun, runNumber, runAnswers, runBytes}
+use Rattle.calls.specs.Calls.{tableFirst, fitsState, runNumber, runAnswers, runBytes}
 use Rattle.machine.specs.Ran.{ranOf, answered, Runs}
 use Rattle.machine.proofs.Values.{decoded}
 
@@ -33,7 +33,7 @@ module _ (t order before own : List ℕ) {after c : List ℕ} {n : ℕ} (long : 
 
   -- The number by the table's number x and the room y for the answers.
   by-room : n ≡ cond (eqb (numberOf workLimit t) 0) (cond (leb (length order) (length before)) 0 255) (numberOf workLimit t)
-  unfolding runNumber tableFirst fitsRun fitsState
+  unfolding runNumber tableFirst fitsState
   by-room = e ∙ rw (eq-eqb (length own) 13776 long)
 
   -- A run that is not done leaves the answers.
