@@ -23,11 +23,11 @@ use Rattle.waits.specs.Waits.{Waits}
 use Rattle.turns.specs.Turns.{Sees}
 
 -- A number other than 0 is all that is promised.
-refused : {p : Program} {s : State} {i n : ℕ} {c : Command} → n ≡ refusal p s i → (n ≡ 0 → ⊥) → Sees p s i (record { number = n; command = c })
-refused e h = record { number = e; command = λ z. absurd (h z) }
+refused : {p : Program} {s : State} {i n : ℕ} {c : Command} → n ≡ refusal p s i → (n ≡ 0 → ⊥) → Sees p s i n c
+refused e h = record { number = e; stands = λ z. absurd (h z) }
 
 -- Number 14.
-pub not-spawned : {b : List ℕ} {p : Program} {s : State} {i n : ℕ} {c : Command} → Lent b s → Reads (λ (x : State). x .activities) b n → n ≤ i → Sees p s i (record { number = 14; command = c })
+pub not-spawned : {b : List ℕ} {p : Program} {s : State} {i n : ℕ} {c : Command} → Lent b s → Reads (λ (x : State). x .activities) b n → n ≤ i → Sees p s i 14 c
 unfolding refusal
 not-spawned {s = s} {i = i} {n = n} l f h =
     let e : n ≡ s .activities = f .reads s l in
@@ -52,7 +52,7 @@ module _ {t starts b : List ℕ} {s : State} {i n : ℕ} (k : Known t starts) (l
     status = ap isEnded (sym (g .reads s l few))
 
     -- Number 15.
-    pub has-ended : {c : Command} → isEnded x ≡ true → Sees (programOf t) s i (record { number = 15; command = c })
+    pub has-ended : {c : Command} → isEnded x ≡ true → Sees (programOf t) s i 15 c
     unfolding refusal
     has-ended e = refused (rw (lt-ltb i (s .activities) spawned, status, e)) (λ z. omega arith)
 
@@ -87,14 +87,14 @@ module _ {t starts b : List ℕ} {s : State} {i n : ℕ} (k : Known t starts) (l
           asked = w .tells k s l formed spawned unended stands
 
           -- Number 16.
-          pub waiting : v ≡ true → Sees (programOf t) s i (record { number = 16; command = command })
+          pub waiting : v ≡ true → Sees (programOf t) s i 16 command
           unfolding refusal
           waiting e = refused (rw (lt-ltb i (s .activities) spawned, unended, ← asked, e)) (λ z. omega arith)
 
           -- None of them.
-          pub moving : v ≡ false → Sees (programOf t) s i (record { number = 0; command = command })
+          pub moving : v ≡ false → Sees (programOf t) s i 0 command
           moving e =
               record {
                 number = sym (turn-back (programOf t) s i (record { spawned = spawned; unended = unended; moves = sym asked ∙ e }));
-                command = λ z. stands;
+                stands = λ z. stands;
               }

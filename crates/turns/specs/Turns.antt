@@ -7,6 +7,7 @@ use lib.ListN.{length, take, drop}
 use Rattle.program.specs.Bodies.{Program, programOf}
 use Rattle.program.specs.Count.{workOf}
 use Rattle.program.specs.Table.{workLimit, numberOf}
+use Rattle.program.specs.declared.command.Command.{Command}
 use Rattle.rules.specs.declared.state.State.{State}
 use Rattle.rules.specs.State.{answerNumber}
 use Rattle.rules.specs.WellFormed.{wellFormed}
@@ -16,16 +17,19 @@ use Rattle.rules.specs.Runs.{runFrom, answersFrom}
 use Rattle.places.specs.Known.{Known}
 use Rattle.fields.specs.Lent.{Lent}
 use Rattle.moves.specs.Moves.{Turned}
-use Rattle.turns.specs.declared.look.Seen.{Seen}
 
--- Numbers 14 to 16, or 0 and the command that activity i stands on.
-pub record Sees (p : Program) (s : State) (i : ℕ) (r : Seen) : Type 0 where
-  pub number : r .number ≡ refusal p s i
-  pub command : r .number ≡ 0 → at p s i .command ≡ r .command
+-- What activity i meets on the way to a step: the number n, 14 to 16 or 0, and, where it is 0, the command that it stands on.
+pub record Sees (p : Program) (s : State) (i n : ℕ) (command : Command) : Type 0 where
+  pub number : n ≡ refusal p s i
+  pub stands : n ≡ 0 → at p s i .command ≡ command
 
 -- So of activity i, whichever number it is, of a well-formed state.
-pub record Looks (t starts b : List ℕ) (i : ℕ) (r : Seen) : Type 0 where
-  pub sees : Known t starts → (s : State) → Lent b s → wellFormed 65535 (programOf t) s ≡ true → Sees (programOf t) s i r
+pub record Meets (t starts b : List ℕ) (i n : ℕ) (command : Command) : Type 0 where
+  pub sees : Known t starts → (s : State) → Lent b s → wellFormed 65535 (programOf t) s ≡ true → Sees (programOf t) s i n command
+
+-- The number alone.
+pub record Looks (t starts b : List ℕ) (i r : ℕ) : Type 0 where
+  pub tells : Known t starts → (s : State) → Lent b s → wellFormed 65535 (programOf t) s ≡ true → r ≡ refusal (programOf t) s i
 
 -- The ready set of a well-formed state.
 pub record Readies (t starts b : List ℕ) (r : ℕ) : Type 0 where

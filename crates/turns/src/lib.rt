@@ -9,7 +9,12 @@ use bodies::end::end;
 use bodies::finish::finish;
 use bodies::repeat::repeat;
 use bodies::spawn::spawn;
-use look::look;
+use fields::activities::depth_at;
+use fields::activities::status_at;
+use fields::counts::activities_of;
+use fields::frames::frame_at;
+use parts::checks::is_ended;
+use places::command_at;
 use program::command::Command;
 use values::acc::acc;
 use values::atom::atom;
@@ -20,8 +25,9 @@ use values::offer::offer;
 use values::put::put;
 use values::read::read;
 use values::reset::reset;
+use waits::waiting::waits_at;
 
-mod look; // look.rt: numbers 14 to 16, and the command
+mod look; // look.rt: numbers 14 to 16
 pub mod ready; // ready.rt: the ready set
 pub mod sheet; // sheet.rt: the standing sheet
 pub mod follow; // follow.rt: an order of turns
@@ -62,10 +68,22 @@ fn carry_out(
 pub fn turn(table: &[u8], starts: &[usize], work: u64, state: &mut [u8], i: usize) -> u8
     ensures { λ r. ⌜ TurnsAny (now (table .entry)) (now (starts .entry)) (now (state .entry)) (now (state .exit)) work i r ⌝ }
 {
-    let seen = look(table, starts, state, i);
-    if seen.number != 0 {
-        return seen.number;
+    let made = activities_of(state) as usize;
+    if made <= i {
+        return 14;
     }
-    let command = seen.command;
+    let status = status_at(state, i);
+    if is_ended(status) {
+        return 15;
+    }
+    let depth = depth_at(state, i) as usize;
+    if depth == 0 {
+        return 15;
+    }
+    let f = frame_at(state, i, depth - 1);
+    let command = command_at(table, starts, f);
+    if waits_at(table, starts, state, i, command) {
+        return 16;
+    }
     carry_out(table, starts, work, state, i, command)
 }

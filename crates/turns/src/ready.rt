@@ -14,8 +14,7 @@ pub fn ready_set(table: &[u8], starts: &[usize], state: &[u8]) -> u64
     let mut set: u64 = 0;
     let mut i: usize = 0;
     while i < made {
-        let seen = look(table, starts, state, i);
-        if seen.number == 0 {
+        if look(table, starts, state, i) == 0 {
             set |= 1u64 << i;
         }
         i += 1;

@@ -1,19 +1,20 @@
 -- Numbers 14 to 16 in their order.
 use native.Mathlib.Omega.{arith}
 use mathlib.Core.Path.{sym, _∙_}
+use Rattle.program.specs.declared.command.Command.the-variants.{End}
 use Rattle.turns.proofs.Looking.{not-spawned, has-ended, some, waiting, moving}
 use borrow.Author.Needs.{needs}
 use Rattle.turns.proofs.look.look.Statement.{statement}
 use Rattle.turns.proofs.look.look.Tie as tie
 
 returns : tie.Need-returns
-returns c = record { sees = λ k s l w. not-spawned l (c .before .activities-of .ensures) (c .if1 .taken) }
+returns c = record { tells = λ k s l w. not-spawned {c = End} l (c .before .activities-of .ensures) (c .if1 .taken) .number }
 
 returns-2 : tie.Need-returns-2
 returns-2 c =
     let g = c .before .before in
     let f = g .before in
-    record { sees = λ k s l w. has-ended k l w (f .before .activities-of .ensures) (f .if1 .left) (g .status-at .ensures) (sym (c .before .is-ended .ensures) ∙ c .if2 .taken) }
+    record { tells = λ k s l w. has-ended k l w (f .before .activities-of .ensures) (f .if1 .left) (g .status-at .ensures) {c = End} (sym (c .before .is-ended .ensures) ∙ c .if2 .taken) .number }
 
 returns-3 : tie.Need-returns-3
 returns-3 c =
@@ -22,7 +23,7 @@ returns-3 c =
     let g = u .before .before in
     let f = g .before in
     record {
-      sees =
+      tells =
           λ k s l w.
           let z = some k l w (f .before .activities-of .ensures) (f .if1 .left) (g .status-at .ensures) (sym (u .before .is-ended .ensures) ∙ u .if2 .left) (d .depth-at .ensures) in
           absurd (let y : ⊥ = omega arith in y);
@@ -38,10 +39,10 @@ returns-4 c =
     let g = u .before .before in
     let f = g .before in
     record {
-      sees =
+      tells =
           λ k s l w.
           waiting k l w (f .before .activities-of .ensures) (f .if1 .left) (g .status-at .ensures) (sym (u .before .is-ended .ensures) ∙ u .if2 .left) (d .depth-at .ensures)
-          (x .frame-at .ensures) (y .command-at .ensures) (v .waits-at .ensures) (c .if4 .taken);
+          (x .frame-at .ensures) (y .command-at .ensures) (v .waits-at .ensures) (c .if4 .taken) .number;
     }
 
 returns-5 : tie.Need-returns-5
@@ -54,10 +55,10 @@ returns-5 c =
     let g = u .before .before in
     let f = g .before in
     record {
-      sees =
+      tells =
           λ k s l w.
           moving k l w (f .before .activities-of .ensures) (f .if1 .left) (g .status-at .ensures) (sym (u .before .is-ended .ensures) ∙ u .if2 .left) (d .depth-at .ensures)
-          (x .frame-at .ensures) (y .command-at .ensures) (v .waits-at .ensures) (c .if4 .left);
+          (x .frame-at .ensures) (y .command-at .ensures) (v .waits-at .ensures) (c .if4 .left) .number;
     }
 
 pub look-spec : {M : Type 1} → statement M

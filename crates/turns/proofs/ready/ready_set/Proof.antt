@@ -30,7 +30,7 @@ loop-less c = omega arith
 
 loop-again : tie.Need-loop-again Inv-loop μ-loop
 loop-again c =
-    let f = c .before .before in
+    let f = c .before in
     let k = f .before .before in
     let g = f .look .ensures in
     let low : k .loop .i < 64 = omega arith in (
