@@ -6,7 +6,7 @@ use fields::counts::activities_of;
 use fields::frames::frame_at;
 use parts::checks::is_ended;
 use places::command_at;
-use waits::waiting::waits_at;
+use waits::waiting::is_kept;
 
 // The number 14 to 16 for which a turn of activity i would be turned down, or 0. Who has neither ended nor a body is in no well-formed state.
 pub fn look(table: &[u8], starts: &[usize], state: &[u8], i: usize) -> u8
@@ -26,7 +26,7 @@ pub fn look(table: &[u8], starts: &[usize], state: &[u8], i: usize) -> u8
     }
     let f = frame_at(state, i, depth - 1);
     let command = command_at(table, starts, f);
-    if waits_at(table, starts, state, i, command) {
+    if is_kept(table, starts, state, i, command) {
         return 16;
     }
     0

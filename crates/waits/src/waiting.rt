@@ -61,3 +61,17 @@ pub fn waits_at(table: &[u8], starts: &[usize], state: &[u8], i: usize, command:
         _ => false,
     }
 }
+
+// The same for the ready set. A turn and the ready set each have a test of their own: with one caller it is compiled into the turn, where the command needs no
+// memory.
+pub fn is_kept(table: &[u8], starts: &[usize], state: &[u8], i: usize, command: Command) -> bool
+    ensures { λ r. ⌜ Waits (now (table .entry)) (now (starts .entry)) command (now (state .entry)) i r ⌝ }
+{
+    match command {
+        Command::End => end_waits(table, starts, state, i),
+        Command::Next => next_waits(state, i),
+        Command::Read(n) => own_waits(state, i, wide(n)),
+        Command::Reset(n) => own_waits(state, i, wide(n)),
+        _ => false,
+    }
+}

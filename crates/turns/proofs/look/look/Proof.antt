@@ -42,7 +42,7 @@ returns-4 c =
       tells =
           λ k s l w.
           waiting k l w (f .before .activities-of .ensures) (f .if1 .left) (g .status-at .ensures) (sym (u .before .is-ended .ensures) ∙ u .if2 .left) (d .depth-at .ensures)
-          (x .frame-at .ensures) (y .command-at .ensures) (v .waits-at .ensures) (c .if4 .taken) .number;
+          (x .frame-at .ensures) (y .command-at .ensures) (v .is-kept .ensures) (c .if4 .taken) .number;
     }
 
 returns-5 : tie.Need-returns-5
@@ -58,7 +58,7 @@ returns-5 c =
       tells =
           λ k s l w.
           moving k l w (f .before .activities-of .ensures) (f .if1 .left) (g .status-at .ensures) (sym (u .before .is-ended .ensures) ∙ u .if2 .left) (d .depth-at .ensures)
-          (x .frame-at .ensures) (y .command-at .ensures) (v .waits-at .ensures) (c .if4 .left) .number;
+          (x .frame-at .ensures) (y .command-at .ensures) (v .is-kept .ensures) (c .if4 .left) .number;
     }
 
 pub look-spec : {M : Type 1} → statement M
@@ -66,4 +66,4 @@ look-spec =
     tie.close
     (tie.spec (λ activities-of-requires κs. search needs) (λ cast-made. search needs) returns (λ status-at-requires κs. search needs) (λ is-ended-requires κs. search needs) returns-2
     (λ depth-at-requires κs. search needs) (λ cast-depth. search needs) returns-3 (λ sub-frame-at. search needs) (λ frame-at-requires κs. search needs)
-    (λ command-at-requires κs. search needs) (λ waits-at-requires κs. search needs) returns-4 returns-5)
+    (λ command-at-requires κs. search needs) (λ is-kept-requires κs. search needs) returns-4 returns-5)
