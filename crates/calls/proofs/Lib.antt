@@ -6,3 +6,4 @@ pub mod Rows
 pub mod Telling
 pub mod Running
 pub mod Encoded
+pub mod Beginning

@@ -3,15 +3,15 @@
 ghost use mathlib.Core.Path.{_≡_};
 ghost use lib.ListN.{length};
 ghost use Rattle.calls.specs.Calls.{startNumber, startBytes, stepNumber, stepBytes, readyNumber, readySet, sheetNumber, sheetBytes, runNumber, runAnswers, runBytes};
-use encoding::encode;
-use parts::empty::start_state;
-use parts::empty::zero_state;
+use begin::put_none;
+use begin::put_start;
 use program::table::read_table;
 use turns::follow::follow;
 use turns::ready::ready_set;
 use turns::turn;
 use wellformed::check_state;
 
+mod begin; // begin.rt: the first states, written in place
 mod sheet; // sheet.rt: the standing sheet as bytes
 
 // What a buffer of another length than the call needs is answered with.
@@ -24,13 +24,13 @@ pub fn start(table: &[u8], state: &mut [u8]) -> u8
     let read = read_table(table);
     let number = read.number;
     if number != 0 {
-        encode(zero_state(), state);
+        put_none(state);
         return number;
     }
     if state.len() != 13776 {
         return LENGTH;
     }
-    encode(start_state(), state);
+    put_start(state);
     0
 }
 
@@ -102,7 +102,7 @@ pub fn run(table: &[u8], order: &[u8], answers: &mut [u8], state: &mut [u8]) -> 
     }
     let layout = read.layout;
     let starts = layout.starts;
-    encode(start_state(), state);
+    put_start(state);
     follow(table, &starts, read.work, order, answers, state);
     0
 }

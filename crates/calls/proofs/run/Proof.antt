@@ -1,5 +1,5 @@
 -- The table's number decides, then the length, then the room; then the order is followed from the start.
-use mathlib.Core.Path.{sym, _∙_}
+use mathlib.Core.Path.{refl, sym, _∙_}
 use Rattle.calls.proofs.Checking.{number-read, known-read, work-read, work-small}
 use Rattle.calls.proofs.Running.{run-refused, run-length, run-short, run-followed}
 use borrow.Author.Needs.{needs}
@@ -35,8 +35,7 @@ returns-4 : tie.Need-returns-4
 returns-4 c =
     let f = c .before .before .before .before in
     let n = f .before .before .before .before .before .before in
-    let s = n .before .before in
-    let o = s .before .before .before in
+    let o = n .before .before .before .before in
     let l = o .before in
     let e = l .before in
     let r = e .before in
@@ -44,11 +43,11 @@ returns-4 c =
     let t = a .table .now in
     let q = r .read-table .ensures in
     let z = sym (number-read t q) ∙ e .if1 .left in
-    run-followed t (a .order .now) (a .answers .now) (a .state .now) z (l .if2 .left) (o .if3 .left) (known-read t q z) (work-read t q z) (work-small t q z) (s .start-state .ensures)
-    (n .encode .ensures) (f .follow .ensures)
+    run-followed t (a .order .now) (a .answers .now) (a .state .now) z (l .if2 .left) (o .if3 .left) (known-read t q z) (work-read t q z) (work-small t q z) refl
+    (n .put-start .ensures) (f .follow .ensures)
 
 pub run-spec : {M : Type 1} → statement M
 run-spec =
     tie.close
-    (tie.spec (λ read-table-requires κs. search needs) returns returns-2 returns-3 (λ start-state-requires κs. search needs) (λ encode-requires κs. search needs)
+    (tie.spec (λ read-table-requires κs. search needs) returns returns-2 returns-3 (λ put-start-requires κs. search needs)
     (λ slice-aggregate-follow. search needs) (λ follow-requires κs. search needs) (λ same-length. search needs) (λ same-length-2. search needs) returns-4)

@@ -1,5 +1,5 @@
 -- The table's number decides, then the length.
-use mathlib.Core.Path.{sym, _∙_}
+use mathlib.Core.Path.{refl, sym, _∙_}
 use Rattle.calls.proofs.Checking.{number-read}
 use Rattle.calls.proofs.Starting.{start-refused, start-length, start-done}
 use borrow.Author.Needs.{needs}
@@ -12,10 +12,11 @@ begun c = c .before .before .before
 
 returns : tie.Need-returns
 returns c =
-    let z = c .before .before .before .before in
-    let r = z .before .before in
+    let p = c .before .before in
+    let z = p .before .before in
+    let r = z .before in
     let a = begun r .args in
-    start-refused (a .table .now) (a .state .now) (number-read (a .table .now) (r .read-table .ensures)) (z .before .if1 .taken) (z .zero-state .ensures) (c .before .before .encode .ensures)
+    start-refused (a .table .now) (a .state .now) (number-read (a .table .now) (r .read-table .ensures)) (z .if1 .taken) refl (p .put-none .ensures)
 
 returns-2 : tie.Need-returns-2
 returns-2 c =
@@ -25,14 +26,15 @@ returns-2 c =
 
 returns-3 : tie.Need-returns-3
 returns-3 c =
-    let s = c .before .before .before .before in
-    let e = s .before .before in
+    let p = c .before .before in
+    let s = p .before .before in
+    let e = s .before in
     let r = e .before in
     let a = begun r .args in
-    start-done (a .table .now) (a .state .now) (sym (number-read (a .table .now) (r .read-table .ensures)) ∙ e .if1 .left) (s .before .if2 .left) (s .start-state .ensures) (c .before .before .encode2 .ensures)
+    start-done (a .table .now) (a .state .now) (sym (number-read (a .table .now) (r .read-table .ensures)) ∙ e .if1 .left) (s .if2 .left) refl (p .put-start .ensures)
 
 pub start-spec : {M : Type 1} → statement M
 start-spec =
     tie.close
-    (tie.spec (λ read-table-requires κs. search needs) (λ zero-state-requires κs. search needs) (λ encode-requires κs. search needs) (λ same-length. search needs) returns returns-2
-    (λ start-state-requires κs. search needs) (λ encode-requires-2 κs. search needs) (λ same-length-2. search needs) returns-3)
+    (tie.spec (λ read-table-requires κs. search needs) (λ put-none-requires κs. search needs) (λ same-length. search needs) returns returns-2
+    (λ put-start-requires κs. search needs) (λ same-length-2. search needs) returns-3)
