@@ -67,7 +67,7 @@ module _ (s : State) (i : ℕ) (e : Effect) (n : length (s .acts) ≡ 64) (h : i
 
 -- FIELD BY FIELD
 
-module _ (s : State) (b : List ℕ) (i : ℕ) {n : ℕ} {cells : List ℕ} {accs : List Accumulator} {a : Activity} (f : n ≡ numberOf (part b 4 4)) (g : cells ≡ partsAt 4 16 numberOf (part b 16 64))
+module _ (s : State) (b : List ℕ) (i : ℕ) {n : ℕ} {cells : List ℕ} {accs : List Accumulator} {a : Activity} (f : n ≡ stateOf b .steps) (g : cells ≡ partsAt 4 16 numberOf (part b 16 64))
     (h : accs ≡ partsAt 24 16 accumulatorAt (part b 80 384)) (o : a ≡ act (stateOf b) i) where
   abbrev made : List Activity → State
   made l = record { cells = cells; acts = l; accs = accs; steps = n; activities = byteAt b 1; clocks = byteAt b 2; accumulators = byteAt b 3 }

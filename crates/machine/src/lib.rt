@@ -3,7 +3,11 @@ ghost use mathlib.Core.Path.{_≡_};
 ghost use Rattle.rules.specs.Steps.{base, start, step, ready, registrations, registrationsNumber};
 ghost use Rattle.machine.specs.Ran.{Runs};
 ghost use Rattle.machine.specs.Numbers.{isRefusal};
-use after::state_after;
+use after::entry_at;
+use after::steps_at;
+use encoding::numbers::cells_at;
+use encoding::accumulators::accumulators_at;
+use program::command::wide;
 use encoding::decode;
 use encoding::encode;
 use fields::activities::status_at;
@@ -51,18 +55,31 @@ fn is_refusal(number: u8) -> bool
 pub fn step(table: &[u8], s: State, activity: usize) -> Stepped
     ensures { λ r. ⌜ r ≡ step base (now (table .entry)) s activity ⌝ }
 {
+    let mut state = s;
     let mut bytes = [0u8; 13776];
     encode(s, &mut bytes);
     let number = calls::step(table, &mut bytes, activity);
     if is_refusal(number) {
         return Stepped {
             answer: Answer::Refused(number),
-            state: s,
+            state,
         };
     }
+    let status = status_at(&bytes, activity);
+    let free = wide(state.activities);
+    state.steps = steps_at(&bytes);
+    state.activities = bytes[1];
+    state.clocks = bytes[2];
+    state.accumulators = bytes[3];
+    state.cells = cells_at(&bytes[16..80]);
+    state.accs = accumulators_at(&bytes[80..464]);
+    state.acts[activity] = entry_at(&bytes, activity);
+    if free < 64 {
+        state.acts[free] = entry_at(&bytes, free);
+    }
     Stepped {
-        answer: Answer::Accepted(status_at(&bytes, activity)),
-        state: state_after(s, &bytes, activity),
+        answer: Answer::Accepted(status),
+        state,
     }
 }
 
