@@ -2,12 +2,8 @@
 ghost use mathlib.Core.Path.{_≡_};
 ghost use Rattle.rules.specs.Steps.{base, start, step, ready, registrations, registrationsNumber};
 ghost use Rattle.machine.specs.Ran.{Runs};
-ghost use Rattle.machine.specs.Numbers.{isRefusal};
-use after::entry_at;
-use after::steps_at;
-use encoding::numbers::cells_at;
-use encoding::accumulators::accumulators_at;
-use program::command::wide;
+ghost use Rattle.machine.specs.Numbers.{isRefusal, answerOf};
+use after::state_after;
 use encoding::decode;
 use encoding::encode;
 use fields::activities::status_at;
@@ -51,35 +47,27 @@ fn is_refusal(number: u8) -> bool
     0 < number && number < 100
 }
 
+// The answer of a step with that number, after which the activity stands so.
+fn answer_of(number: u8, status: Status) -> Answer
+    ensures { λ r. ⌜ r ≡ answerOf number status ⌝ }
+{
+    if is_refusal(number) {
+        return Answer::Refused(number);
+    }
+    Answer::Accepted(status)
+}
+
 // A step of an activity, whichever the host picks: numbers 1 to 17.
 pub fn step(table: &[u8], s: State, activity: usize) -> Stepped
     ensures { λ r. ⌜ r ≡ step base (now (table .entry)) s activity ⌝ }
 {
-    let mut state = s;
     let mut bytes = [0u8; 13776];
     encode(s, &mut bytes);
     let number = calls::step(table, &mut bytes, activity);
-    if is_refusal(number) {
-        return Stepped {
-            answer: Answer::Refused(number),
-            state,
-        };
-    }
     let status = status_at(&bytes, activity);
-    let free = wide(state.activities);
-    state.steps = steps_at(&bytes);
-    state.activities = bytes[1];
-    state.clocks = bytes[2];
-    state.accumulators = bytes[3];
-    state.cells = cells_at(&bytes[16..80]);
-    state.accs = accumulators_at(&bytes[80..464]);
-    state.acts[activity] = entry_at(&bytes, activity);
-    if free < 64 {
-        state.acts[free] = entry_at(&bytes, free);
-    }
     Stepped {
-        answer: Answer::Accepted(status),
-        state,
+        answer: answer_of(number, status),
+        state: state_after(s, &bytes, activity),
     }
 }
 
