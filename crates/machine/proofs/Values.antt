@@ -15,6 +15,7 @@ use Rattle.rules.specs.declared.state.Status.{Status}
 use Rattle.rules.specs.declared.state.Status.the-variants.{Running, AtBarrier, Ended, Faulted}
 use Rattle.rules.specs.declared.state.Activity.{Activity}
 use Rattle.rules.specs.declared.state.State.{State}
+use Rattle.rules.specs.declared.answer.Answer.{Answer}
 use Rattle.rules.specs.declared.answer.Answer.the-variants.{Accepted, Refused}
 use Rattle.rules.specs.declared.answer.Stepped.{Stepped}
 use Rattle.rules.specs.declared.answer.Ready.{Ready}
@@ -22,7 +23,6 @@ use Rattle.rules.specs.State.{zeroState, faultNumber, statusAnswer, answerNumbe
 use Rattle.rules.specs.Effects.{applied}
 use Rattle.rules.specs.WellFormed.{wellFormed}
 use Rattle.rules.specs.Steps.{base, startState, startWith, start, effect, refusal, unfit, stepped, step, ready, noSheet, sheetOf, registrations, registrationsNumber}
-use Rattle.rules.proofs.Tests.{true-false}
 use Rattle.rules.proofs.Turn.{turn}
 use Rattle.rules.proofs.WellFormedFacts.{facts}
 use Rattle.rules.proofs.StepLaws.{Outcome, unfits, refuses, overflows, takes, outcome, refusal-number}
@@ -37,9 +37,9 @@ use Rattle.wellformed.specs.Passing.{unfitBytes}
 use Rattle.calls.specs.Calls.{stepNumber, stepBytes, readyNumber, readySet}
 use Rattle.calls.proofs.Lending.{lent-state}
 use Rattle.calls.proofs.Stepping.{stepBytes-encode}
-use Rattle.machine.specs.Numbers.{isRefusal}
+use Rattle.machine.specs.Numbers.{isRefusal, answerOf}
 use Rattle.machine.specs.After.{after}
-use Rattle.machine.proofs.Kept.{own-after, together}
+use Rattle.machine.proofs.Kept.{own-after, together, same}
 
 -- THE BYTES OF A STATE
 
@@ -118,56 +118,47 @@ module _ (t : List ℕ) {s : State} (f : Fitting s) (i : ℕ) {n : ℕ} {b c : L
   unfits-small =
       unfit-small (numberOf workLimit t) (wellFormed 65535 (programOf t) s) (eqb (numberOf workLimit t) 0) refl (number-small workLimit t)
 
-  -- It is turned down, and the state stays.
-  pub turned-down : isRefusal n ≡ true → stepped (Refused n) s ≡ step base t s i
-  turned-down h = go (outcome base t s i)
-    where
-      same : (m : ℕ) → step base t s i ≡ stepped (Refused m) s → stepped (Refused n) s ≡ step base t s i
-      same m d = let k : n ≡ m = number-is ∙ ap (λ (x : Stepped). answerNumber (x .answer)) d in rw k (sym d)
-
-      go : Outcome base t s i → stepped (Refused n) s ≡ step base t s i
-      go (unfits m a k d) = same m d
-      go (refuses m a k d) = same m d
-      go (overflows a x d) = same 17 d
-      go (takes a w r x d) =
-          let k : n ≡ statusAnswer (effect (programOf t) s i .self .status) = number-is ∙ ap (λ (y : Stepped). answerNumber (y .answer)) d in
-          absurd (true-false (isRefusal n) h (rw k (taken-is (effect (programOf t) s i .self .status))))
-
-  -- It is taken: the activity is one of those there are, and what it does is done.
-  accepts : isRefusal n ≡ false
-      → (i < s .activities) × (s .activities ≤ 64) × (step base t s i ≡ stepped (Accepted (effect (programOf t) s i .self .status)) (applied s i (effect (programOf t) s i)))
-  accepts h = go (outcome base t s i)
-    where
-      never : (k : ℕ) → (k ≡ 0 → ⊥) → k ≤ 17 → step base t s i ≡ stepped (Refused k) s → ⊥
-      never k z l w = let v : n ≡ k = number-is ∙ ap (λ (x : Stepped). answerNumber (x .answer)) w in true-false (isRefusal n) (rw v (refusal-is k z l)) h
-
-      go : Outcome base t s i
-          → (i < s .activities) × (s .activities ≤ 64) × (step base t s i ≡ stepped (Accepted (effect (programOf t) s i .self .status)) (applied s i (effect (programOf t) s i)))
-      go (unfits k a z w) = let l = unfits-small in absurd (never k z (omega arith) w)
-      go (refuses k a z w) = let l = refusal-number (programOf t) s i (λ x. z (sym a ∙ x)) .1 in absurd (never k z (omega arith) w)
-      go (overflows a x w) = absurd (never 17 (λ z. omega arith) (omega arith) w)
-      go (takes a w z x v) = (turn (programOf t) s i z .spawned, facts 65535 (programOf t) s w .acts64, v)
-
-  module _ (y : Bytes t) (h : isRefusal n ≡ false) where
+  -- The state after it fits, so its bytes encode it.
+  module _ (y : Bytes t) where
     fits-after : Fitting (step base t s i .state)
     fits-after = step-fits t y s f i
 
-    -- Its bytes are those of a state, and the activity has an entry there.
-    pub has-entry : (length c ≡ 13776) × (fieldsEncode c ≡ true) × (i < 64)
-    has-entry =
-        let k = accepts h in
-        let r = state-round (fits-after .sized) (fits-after .fits) in
-        (rw bytes-are (r .size), rw bytes-are (r .passes), omega (arith, k .0, k .1))
+    pub after-passes : (length c ≡ 13776) × (fieldsEncode c ≡ true)
+    after-passes = let r = state-round (fits-after .sized) (fits-after .fits) in (rw bytes-are (r .size), rw bytes-are (r .passes))
 
-    pub taken : {z : State} {r : Status} → z ≡ after s (stateOf c) i → ReadsAct (λ (a : Activity). a .status) c i r → stepped (Accepted r) z ≡ step base t s i
-    taken {z} {r} o m =
-        let (u, few, v) = accepts h in
-        let d = effect (programOf t) s i in
-        let b : stateOf c ≡ applied s i d = ap stateOf bytes-are ∙ back fits-after ∙ ap (λ (x : Stepped). x .state) v in
-        let k : z ≡ applied s i d = o ∙ ap (λ (x : State). after s x i) b ∙ together s i d (f .sized .acts64) u few in
-        let l : r ≡ act (step base t s i .state) i .status = m .reads (step base t s i .state) (rw bytes-are (lent fits-after)) (has-entry .2) in
-        let q : act (step base t s i .state) i ≡ d .self = ap (λ (x : Stepped). act (x .state) i) v ∙ own-after s i d (f .sized .acts64) u few in
-        ap (λ (x : State). stepped (Accepted r) x) k ∙ ap (λ (x : Status). stepped (Accepted x) (applied s i d)) (l ∙ ap (λ (x : Activity). x .status) q) ∙ sym v
+    after-is : stateOf c ≡ step base t s i .state
+    after-is = ap stateOf bytes-are ∙ back fits-after
+
+    -- It is turned down, and the state stays.
+    turned-down : (m : ℕ) → (m ≡ 0 → ⊥) → m ≤ 17 → step base t s i ≡ stepped (Refused m) s → (r : Status) → stepped (answerOf n r) (after s (stateOf c) i) ≡ step base t s i
+    unfolding answerOf
+    turned-down m z l d r =
+        let k : n ≡ m = number-is ∙ ap (λ (x : Stepped). answerNumber (x .answer)) d in
+        let v : stateOf c ≡ s = after-is ∙ ap (λ (x : Stepped). x .state) d in
+        rw (k, refusal-is m z l, v, same s i) (sym d)
+
+    -- It is taken, by an activity that there is.
+    taken : (r : Status) → ReadsAct (λ (a : Activity). a .status) c i r → i < s .activities → s .activities ≤ 64
+        → step base t s i ≡ stepped (Accepted (effect (programOf t) s i .self .status)) (applied s i (effect (programOf t) s i))
+        → stepped (answerOf n r) (after s (stateOf c) i) ≡ step base t s i
+    unfolding answerOf
+    taken r m h few d =
+        let e = effect (programOf t) s i in
+        let k : n ≡ statusAnswer (e .self .status) = number-is ∙ ap (λ (x : Stepped). answerNumber (x .answer)) d in
+        let v : stateOf c ≡ applied s i e = after-is ∙ ap (λ (x : Stepped). x .state) d in
+        let q : act (step base t s i .state) i ≡ e .self = ap (λ (x : Stepped). act (x .state) i) d ∙ own-after s i e (f .sized .acts64) h few in
+        let l : r ≡ e .self .status = m .reads (step base t s i .state) (rw bytes-are (lent fits-after)) (omega arith) ∙ ap (λ (x : Activity). x .status) q in
+        rw (k, taken-is (e .self .status), v, together s i e (f .sized .acts64) h few, l) (sym d)
+
+    -- Either way the answer and the state are those of the step.
+    pub told : {z : State} {r : Status} {x : Answer} → z ≡ after s (stateOf c) i → ReadsAct (λ (a : Activity). a .status) c i r → x ≡ answerOf n r → stepped x z ≡ step base t s i
+    told {z} {r} {x} o m w = rw (o, w) (go (outcome base t s i))
+      where
+        go : Outcome base t s i → stepped (answerOf n r) (after s (stateOf c) i) ≡ step base t s i
+        go (unfits k a h d) = let l = unfits-small in turned-down k h (omega arith) d r
+        go (refuses k a h d) = let l = refusal-number (programOf t) s i (λ q. h (sym a ∙ q)) .1 in turned-down k h (omega arith) d r
+        go (overflows a h d) = turned-down 17 (λ q. omega arith) (omega arith) d r
+        go (takes a h q b d) = taken r m (turn (programOf t) s i q .spawned) (facts 65535 (programOf t) s h .acts64) d
 
 -- THE READY SET
 

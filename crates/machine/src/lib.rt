@@ -2,7 +2,7 @@
 ghost use mathlib.Core.Path.{_≡_};
 ghost use Rattle.rules.specs.Steps.{base, start, step, ready, registrations, registrationsNumber};
 ghost use Rattle.machine.specs.Ran.{Runs};
-ghost use Rattle.machine.specs.Numbers.{isRefusal};
+ghost use Rattle.machine.specs.Numbers.{isRefusal, answerOf};
 use after::state_after;
 use encoding::decode;
 use encoding::encode;
@@ -47,6 +47,16 @@ fn is_refusal(number: u8) -> bool
     0 < number && number < 100
 }
 
+// The answer of a step with that number, after which the activity stands so.
+fn answer_of(number: u8, status: Status) -> Answer
+    ensures { λ r. ⌜ r ≡ answerOf number status ⌝ }
+{
+    if is_refusal(number) {
+        return Answer::Refused(number);
+    }
+    Answer::Accepted(status)
+}
+
 // A step of an activity, whichever the host picks: numbers 1 to 17.
 pub fn step(table: &[u8], s: State, activity: usize) -> Stepped
     ensures { λ r. ⌜ r ≡ step base (now (table .entry)) s activity ⌝ }
@@ -54,14 +64,9 @@ pub fn step(table: &[u8], s: State, activity: usize) -> Stepped
     let mut bytes = [0u8; 13776];
     encode(s, &mut bytes);
     let number = calls::step(table, &mut bytes, activity);
-    if is_refusal(number) {
-        return Stepped {
-            answer: Answer::Refused(number),
-            state: s,
-        };
-    }
+    let status = status_at(&bytes, activity);
     Stepped {
-        answer: Answer::Accepted(status_at(&bytes, activity)),
+        answer: answer_of(number, status),
         state: state_after(s, &bytes, activity),
     }
 }

@@ -1,14 +1,13 @@
--- The step in bytes of the call's own: turned down, the state stays; taken, what it changed is read from them.
+-- The step in bytes of the call's own: its number gives the answer, and what it can change is read from them.
 use Prim.Native.Nat.{ℕ}
 use native.Mathlib.Omega.{arith}
-use mathlib.Core.Path.{_≡_, sym, _∙_}
-use mathlib.Core.List.{List}
+use mathlib.Core.Path.{_≡_}
 use lib.ListN.{replicate, length-replicate}
 use Rattle.program.proofs.Basic.{Bytes}
 use Rattle.encoding.specs.Encode.{encodeState}
 use Rattle.fits.proofs.Fitting.{Fitting}
 use Rattle.machine.proofs.Typed.{fitting}
-use Rattle.machine.proofs.Values.{own-bytes, turned-down, has-entry, taken}
+use Rattle.machine.proofs.Values.{own-bytes, after-passes, told}
 use borrow.Author.Needs.{needs}
 use Rattle.machine.proofs.step.Statement.{statement}
 use Rattle.machine.proofs.step.Tie as tie
@@ -23,40 +22,34 @@ fits c = fitting (start c .args .s) _ (start c .good .1 .0)
 table-bytes : (c : tie.After-encode) → Bytes (start c .args .table .now)
 table-bytes c i = omega (arith, c .before .before .shared-slice-known .given i)
 
--- Where its bytes took the step.
+own : (c : tie.After-encode) → c .encode .last .1 .0 ≡ encodeState (start c .args .s)
+own c = own-bytes (fits c) (replicate 13776 0) (length-replicate {A = ℕ} 13776 0) (c .encode .ensures)
+
+-- Where the step was called.
 abbrev encoded : tie.After-step → tie.After-encode
 encoded c = c .before .before .before
 
-returns : tie.Need-returns
-returns c =
-    let d = c .before .before .before in
-    let e = encoded d in
-    let a = start e .args in
-    turned-down (a .table .now) (fits e) (a .activity) (own-bytes (fits e) (replicate 13776 0) (length-replicate {A = ℕ} 13776 0) (e .encode .ensures)) (d .step .ensures .0) (d .step .ensures .1)
-    (sym (c .before .is-refusal .ensures) ∙ c .if1 .taken)
+abbrev called : tie.After-answer-of → tie.After-step
+called c = c .before .before .before .before
 
 state-after-requires : tie.Need-state-after-requires
 state-after-requires c κs =
-    let l = c .before .before .before in
-    let d = l .before .before .before in
+    let d = called (c .before) in
     let e = encoded d in
     let a = start e .args in
-    let k = has-entry (a .table .now) (fits e) (a .activity) (own-bytes (fits e) (replicate 13776 0) (length-replicate {A = ℕ} 13776 0) (e .encode .ensures)) (d .step .ensures .0) (d .step .ensures .1)
-    (table-bytes e) (sym (l .before .is-refusal .ensures) ∙ l .if1 .left) in
-    (k .0, (k .1, k .2))
+    after-passes (a .table .now) (fits e) (a .activity) (own e) (d .step .ensures .0) (d .step .ensures .1) (table-bytes e)
 
-returns-2 : tie.Need-returns-2
-returns-2 c =
-    let l = c .before .before .before .before in
-    let d = l .before .before .before in
+returns : tie.Need-returns
+returns c =
+    let w = c .before .before in
+    let d = called w in
     let e = encoded d in
     let a = start e .args in
-    taken (a .table .now) (fits e) (a .activity) (own-bytes (fits e) (replicate 13776 0) (length-replicate {A = ℕ} 13776 0) (e .encode .ensures)) (d .step .ensures .0) (d .step .ensures .1)
-    (table-bytes e) (sym (l .before .is-refusal .ensures) ∙ l .if1 .left) (c .state-after .ensures) (c .before .before .status-at .ensures)
+    told (a .table .now) (fits e) (a .activity) (own e) (d .step .ensures .0) (d .step .ensures .1) (table-bytes e) (c .state-after .ensures) (w .before .status-at .ensures) (w .answer-of .ensures)
 
 pub step-spec : {M : Type 1} → statement M
 step-spec =
     tie.close
     (tie.spec (λ slice-aggregate-encode. search needs) (λ encode-requires κs. search needs) (λ slice-aggregate-step. search needs) (λ step-requires κs. search needs)
-    (λ is-refusal-requires κs. search needs) returns (λ slice-aggregate-status-at. search needs) (λ status-at-requires κs. search needs)
-    (λ slice-aggregate-state-after. search needs) state-after-requires returns-2)
+    (λ slice-aggregate-status-at. search needs) (λ status-at-requires κs. search needs) (λ answer-of-requires κs. search needs)
+    (λ slice-aggregate-state-after. search needs) state-after-requires returns)
