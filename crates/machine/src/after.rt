@@ -44,14 +44,17 @@ pub fn state_after(s: State, bytes: &[u8], i: usize) -> State
 {
     let own = entry_of(i);
     let free = entry_of(wide(s.activities));
-    let mut next = s;
-    next.acts[own] = activity_in(bytes, own);
-    next.acts[free] = activity_in(bytes, free);
-    next.cells = cells_at(&bytes[16..80]);
-    next.accs = accumulators_at(&bytes[80..464]);
-    next.steps = number(&bytes[4..8]) as u16;
-    next.activities = bytes[1];
-    next.clocks = bytes[2];
-    next.accumulators = bytes[3];
-    next
+    let mut acts = s.acts;
+    acts[own] = activity_in(bytes, own);
+    acts[free] = activity_in(bytes, free);
+    let steps = number(&bytes[4..8]) as u16;
+    State {
+        cells: cells_at(&bytes[16..80]),
+        acts,
+        accs: accumulators_at(&bytes[80..464]),
+        steps,
+        activities: bytes[1],
+        clocks: bytes[2],
+        accumulators: bytes[3],
+    }
 }
