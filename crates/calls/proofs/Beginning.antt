@@ -2,8 +2,8 @@
 use Prim.Native.Nat.{ℕ, zero, suc, _+_, _*_}
 use native.Mathlib.Omega.{arith}
 use native.Mathlib.Nat.{suc-mul, zero-mul, add-comm}
-use mathlib.Core.Path.{_≡_, refl, sym, ap, _∙_}
-use mathlib.Core.List.{List, [], _∷_, _++_}
+use mathlib.Core.Path.{_≡_, refl, ap, _∙_}
+use mathlib.Core.List.{List, _∷_, _++_}
 use mathlib.Core.Bool.{cond}
 use lib.Dec.{eqb}
 use lib.ListN.{length, set, replicate, replicate-append-replicate}
@@ -15,7 +15,7 @@ use Rattle.rules.specs.Steps.{startState}
 use Rattle.encoding.specs.Bytes.{bytesOf, encodeEach}
 use Rattle.encoding.specs.Encode.{encodeFrame, encodeHold, encodeAccumulator, encodeActivity, encodeState}
 use Rattle.fits.proofs.Fitting.{zero-fits}
-use Rattle.fields.specs.Lent.{Lent, Writes, WritesAct, withAct, withActivities, withDepth}
+use Rattle.fields.specs.Lent.{Writes, WritesAct, withAct, withActivities, withDepth}
 use Rattle.calls.proofs.Lending.{lent-state}
 
 -- THE STATE OF ZEROS

@@ -18,11 +18,10 @@ use Rattle.rules.specs.declared.state.State.{State}
 use Rattle.rules.specs.declared.answer.Answer.{Answer}
 use Rattle.rules.specs.declared.answer.Answer.the-variants.{Accepted, Refused}
 use Rattle.rules.specs.declared.answer.Stepped.{Stepped}
-use Rattle.rules.specs.declared.answer.Ready.{Ready}
 use Rattle.rules.specs.State.{zeroState, faultNumber, statusAnswer, answerNumber, act}
 use Rattle.rules.specs.Effects.{applied}
 use Rattle.rules.specs.WellFormed.{wellFormed}
-use Rattle.rules.specs.Steps.{base, startState, startWith, start, effect, refusal, unfit, stepped, step, ready, noSheet, sheetOf, registrations, registrationsNumber}
+use Rattle.rules.specs.Steps.{base, startState, startWith, start, effect, unfit, stepped, step, ready, noSheet, sheetOf, registrations, registrationsNumber}
 use Rattle.rules.proofs.Turn.{turn}
 use Rattle.rules.proofs.WellFormedFacts.{facts}
 use Rattle.rules.proofs.StepLaws.{Outcome, unfits, refuses, overflows, takes, outcome, refusal-number}

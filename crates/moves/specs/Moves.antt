@@ -8,7 +8,6 @@ use Rattle.program.specs.Bodies.{Program, programOf}
 use Rattle.program.specs.Count.{workOf}
 use Rattle.program.specs.declared.command.Command.{Command}
 use Rattle.rules.specs.declared.state.Fault.{Fault}
-use Rattle.rules.specs.declared.state.Activity.{Activity}
 use Rattle.rules.specs.declared.state.State.{State}
 use Rattle.rules.specs.State.{faultNumber, act, top, bound, answerNumber}
 use Rattle.rules.specs.WellFormed.{wellFormed}
