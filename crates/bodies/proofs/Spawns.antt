@@ -24,7 +24,7 @@ use Rattle.rules.specs.Steps.{base, at, fault, effect, exceeds}
 use Rattle.rules.proofs.Turn.{turn}
 use Rattle.places.specs.Known.{Known}
 use Rattle.moves.specs.Exceeding.{overfull, exceedsAt}
-use Rattle.places.proofs.Facing.{stack-of}
+use Rattle.places.proofs.Roots.{stack-of}
 use Rattle.fields.specs.Lent.{Lent, Writes, WritesAct, withAct, withSteps, withActivities, withSpawner, withFrame, withDepth}
 use Rattle.moves.specs.Moves.{Standing, Turned, GoesOn}
 use Rattle.bodies.specs.Lends.{ReadsIn}

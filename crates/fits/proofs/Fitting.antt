@@ -1,4 +1,4 @@
--- Every state that the rules reach has the sizes of the declared types, and its numbers fit them: so its bytes are those of no other.
+-- Every state that the rules reach has the sizes of the declared types, and its numbers fit them: so its bytes are those of no other (`encoding/proofs/StateLaws`).
 use Prim.Native.Nat.{ℕ, zero, suc, _^_, _≤_, _<_}
 use native.Mathlib.Omega.{arith}
 use mathlib.Core.Path.{_≡_, refl, _∙_}
@@ -22,10 +22,7 @@ use Rattle.rules.proofs.Turn.{turn}
 use Rattle.rules.proofs.StepLaws.{Outcome, unfits, refuses, overflows, takes, outcome}
 use Rattle.rules.proofs.WellFormedFacts.{facts}
 use Rattle.rules.proofs.WellFormedStep.{step-wellFormed}
-use Rattle.encoding.specs.Encode.{encodeState}
-use Rattle.encoding.specs.Decode.{encodes, stateOf}
 use Rattle.encoding.proofs.Fits.{FitsFrame, FitsHold, FitsAccumulator, FitsActivity, FitsState}
-use Rattle.encoding.proofs.StateLaws.{encodeState-encodes, stateOf-encodeState}
 use Rattle.fits.proofs.Small.{Four, Small, put, small-step}
 use Rattle.fits.proofs.Formed.{formed-fits}
 
@@ -178,10 +175,3 @@ start-call-fits t = go (eqb (numberOf (base .work) t) 0) refl
 pub run-fits : (t : List ℕ) → Bytes t → (order : List ℕ) → Fitting (run base t order)
 unfolding run
 run-fits t y order = run-from-fits t y order (start base t .state) (start-call-fits t)
-
--- So its bytes encode a state, and that is the one.
-pub run-encodes : (t : List ℕ) → Bytes t → (order : List ℕ) → encodes (encodeState (run base t order)) ≡ true
-run-encodes t y order = let f = run-fits t y order in encodeState-encodes (run base t order) (f .sized) (f .fits)
-
-pub run-back : (t : List ℕ) → Bytes t → (order : List ℕ) → stateOf (encodeState (run base t order)) ≡ run base t order
-run-back t y order = let f = run-fits t y order in stateOf-encodeState (run base t order) (f .sized) (f .fits)

@@ -29,13 +29,13 @@ use Rattle.encoding.specs.declared.Decoded.{Decoded}
 use Rattle.encoding.specs.Encode.{encodeState}
 use Rattle.encoding.specs.Decode.{stateOf, fieldsEncode, encodes, decodedOf}
 use Rattle.encoding.proofs.FromState.{state-round}
-use Rattle.encoding.proofs.StateLaws.{encodeState-encodes, stateOf-encodeState, encodeState-bytes}
+use Rattle.encoding.proofs.StateLaws.{encodeState-encodes, stateOf-encodeState}
 use Rattle.fits.proofs.Fitting.{Fitting, step-fits}
 use Rattle.fields.specs.Lent.{Lent, Reads, ReadsAct}
 use Rattle.wellformed.specs.Passing.{unfitBytes}
 use Rattle.calls.specs.Calls.{stepNumber, stepBytes, readyNumber, readySet}
 use Rattle.calls.proofs.Lending.{lent-state}
-use Rattle.calls.proofs.Stepping.{stepBytes-encode}
+use Rattle.calls.proofs.Encoded.{step-number, step-bytes, ready-number, ready-set}
 use Rattle.machine.specs.Numbers.{isRefusal, answerOf}
 use Rattle.machine.specs.After.{after}
 use Rattle.machine.proofs.Kept.{own-after, together, same}
@@ -104,13 +104,10 @@ unfit-small n w false e l = rw e (omega arith)
 
 module _ (t : List ℕ) {s : State} (f : Fitting s) (i : ℕ) {n : ℕ} {b c : List ℕ} (q : b ≡ encodeState s) (e : n ≡ stepNumber t b i) (g : c ≡ stepBytes t b i) where
   number-is : n ≡ answerNumber (step base t s i .answer)
-  unfolding stepNumber
-  number-is = e ∙ rw (q, encoded f, back f)
+  number-is = e ∙ ap (λ (x : List ℕ). stepNumber t x i) q ∙ step-number t s f i
 
   bytes-are : c ≡ encodeState (step base t s i .state)
-  bytes-are =
-      g ∙ ap (λ (x : List ℕ). stepBytes t x i) q ∙ stepBytes-encode t (encodeState s) i (encodeState-bytes s (f .sized) (f .fits)) (encoded f)
-      ∙ ap (λ (x : State). encodeState (step base t x i .state)) (back f)
+  bytes-are = g ∙ ap (λ (x : List ℕ). stepBytes t x i) q ∙ step-bytes t s f i
 
   unfits-small : unfit base (numberOf workLimit t) (programOf t) s ≤ 17
   unfolding unfit
@@ -163,8 +160,7 @@ module _ (t : List ℕ) {s : State} (f : Fitting s) (i : ℕ) {n : ℕ} {b c : L
 
 module _ (t : List ℕ) {s : State} (f : Fitting s) {b : List ℕ} (q : b ≡ encodeState s) where
   pub ready-is : {n x : ℕ} → n ≡ readyNumber t b → x ≡ readySet t b → record { set = x; number = n } ≡ ready base t s
-  unfolding readyNumber readySet
-  ready-is e g = rw (e, g, q, encoded f, back f)
+  ready-is e g = rw (e, g, q, ready-number t s f, ready-set t s f)
 
   -- THE SHEET
 

@@ -7,7 +7,7 @@ use mathlib.Core.Bool.{Bool, true, false, cond, _||_, _&&_}
 use mathlib.Core.Logic.{_⊎_, inl, inr}
 use lib.ListN.{getD, set, getD-replicate}
 use lib.Dec.{ltb, leb, eqb}
-use borrow.Author.Tests.{ltb-true, lt-ltb, le-ltb, eqb-true, eq-eqb, ne-eqb}
+use borrow.Author.Tests.{ltb-true, lt-ltb, le-ltb, eqb-true, eq-eqb}
 use Rattle.program.specs.Command.{opcode}
 use Rattle.program.specs.Bodies.{Program}
 use Rattle.program.specs.Count.{workOf}
@@ -30,8 +30,7 @@ use Rattle.rules.proofs.Lists.{Stored, new, old, stored}
 use Rattle.rules.proofs.WellFormedHolds.{Fits, under-map}
 use Rattle.rules.proofs.WellFormedFacts.{Facts}
 use Rattle.rules.proofs.Shapes.{Replaced, dropped, resumed, created, Reheld, kept, replaced, Kind, ends, meets, forks, opens, loops, moves, kind, isNext}
-use Rattle.places.proofs.Searches.{both}
-use Rattle.places.proofs.Facing.{some-alike}
+use Rattle.places.proofs.Searches.{both, some-alike}
 use Rattle.moves.specs.Exceeding.{overfull, isLast, someLast, overtakes, exceedsAt}
 
 -- WHAT IS MADE
@@ -60,32 +59,9 @@ makes-by p e i a (Store d) inner = (refl, refl, refl)
 makes-by p e i a (Add d) inner = (refl, refl, refl)
 makes-by p e i a (Atom k) inner = (refl, refl, refl)
 
--- Only ASYNC spawns.
-pub spawns-by : (p : Program) (e : Env) (i : ℕ) (a : Activity) (c : Command) (inner : List Command) → spawns (effectOf p e i a c inner .spawned) ≡ eqb (opcode c) 0x05
-unfolding Makes
-spawns-by p e i a c inner = makes-by p e i a c inner .0
-
--- The test by the command's byte.
 or-none : (b : Bool) → b ≡ b || false
 or-none true = refl
 or-none false = refl
-
-module _ (s : State) (c : Command) {op : ℕ} (e : op ≡ opcode c) where
-  pub full-activities : op ≡ 5 → leb 64 (s .activities) ≡ overfull s c
-  unfolding overfull
-  full-activities h = rw (sym e ∙ h) (or-none (leb 64 (s .activities)))
-
-  pub full-clocks : op ≡ 2 → leb 16 (s .clocks) ≡ overfull s c
-  unfolding overfull
-  full-clocks h = rw (sym e ∙ h) (or-none (leb 16 (s .clocks)))
-
-  pub full-accumulators : op ≡ 8 → leb 16 (s .accumulators) ≡ overfull s c
-  unfolding overfull
-  full-accumulators h = rw (sym e ∙ h)
-
-  pub full-none : (op ≡ 5 → ⊥) → (op ≡ 2 → ⊥) → (op ≡ 8 → ⊥) → false ≡ overfull s c
-  unfolding overfull
-  full-none f g h = rw (ne-eqb (opcode c) 5 (λ q. f (e ∙ q)), ne-eqb (opcode c) 2 (λ q. g (e ∙ q)), ne-eqb (opcode c) 8 (λ q. h (e ∙ q)))
 
 -- PHASES
 

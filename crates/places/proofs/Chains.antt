@@ -5,7 +5,7 @@ use mathlib.Core.Path.{_≡_, refl, sym, ap, _∙_}
 use mathlib.Core.List.{List}
 use mathlib.Core.Logic.{_⊎_, inl, inr}
 use mathlib.Core.Bool.{Bool, true, false, _||_, _&&_}
-use lib.ListN.{length, getD, set, replicate, length-set, length-replicate, getD-replicate}
+use lib.ListN.{length, getD, set, length-set}
 use lib.Seq.{getD-set-same, getD-set-other}
 use lib.Dec.{leb, eqb}
 use borrow.Author.Count.{below-more}
@@ -15,9 +15,9 @@ use Rattle.rules.specs.State.{ended}
 use Rattle.rules.specs.Search.{someBelow, chain}
 use Rattle.rules.specs.Tree.{spawnerOf, descends, inside}
 use Rattle.rules.specs.Waiting.{unendedBelow, unendedInside}
-use Rattle.rules.proofs.Tests.{decide, true-false, or-right}
+use Rattle.rules.proofs.Tests.{decide, true-false}
 use Rattle.rules.proofs.Search.{someBelow-intro, someBelow-all, chain-above, chain-step}
-use Rattle.places.specs.Facing.{Rooted}
+use Rattle.places.specs.Rooted.{Rooted}
 
 -- Of the activities below x: the marks are of those inside, and none of these is unended.
 pub record Passed (s : State) (w first : ℕ) (marks : List Bool) (x : ℕ) : Type 0 where
@@ -42,14 +42,6 @@ not-unended s w first x e = rw e
 pub none-above : (s : State) (w first : ℕ) → s .activities ≤ w → someBelow (s .activities) (unendedInside s w first) ≡ false
 none-above s w first h =
     someBelow-all (s .activities) (unendedInside s w first) (λ k l e. true-false _ e (not-unended s w first k (outside s w first k (omega arith))))
-
--- Up to the owner nothing is marked.
-pub passed-start : (s : State) (w first : ℕ) → w < 64 → Passed s w first (replicate 64 false) (w + 1)
-passed-start s w first h = record {
-  sized = length-replicate 64 false;
-  marked = λ k l. getD-replicate 64 k false false (omega arith) ∙ sym (outside s w first k (omega arith));
-  none = λ k l. not-unended s w first k (outside s w first k (omega arith));
-}
 
 module _ (s : State) (r : Rooted s) (w first : ℕ) {marks : List Bool} {x : ℕ} (p : Passed s w first marks x) (low : w < x) (made : x < s .activities) where
   -- An activity is inside by its own spawning, or with its spawner.
@@ -114,18 +106,3 @@ descends-inside s w x = chain-any (spawnerOf s) w 64 x
 pub unended-below : (s : State) (w : ℕ) → someBelow (s .activities) (unendedBelow s w) ≡ someBelow (s .activities) (unendedInside s w 0)
 unfolding unendedBelow unendedInside
 unended-below s w = some-same (s .activities) (unendedBelow s w) (unendedInside s w 0) (λ k. rw (descends-inside s w k))
-
--- HOW ONE JOINS
-
-pub joins-above : (e l : Bool) {a : Bool} → a ≡ true → true ≡ (e && l) || a
-joins-above e l {a} h = sym (or-right (e && l) a h)
-
-pub joins-owner : {e l a : Bool} → e ≡ true → a ≡ false → l ≡ (e && l) || a
-joins-owner {l = l} p q = rw (p, q) (sym (or-false l))
-  where
-    or-false : (b : Bool) → b || false ≡ b
-    or-false true = refl
-    or-false false = refl
-
-pub joins-none : {e : Bool} (l : Bool) {a : Bool} → e ≡ false → a ≡ false → e ≡ (e && l) || a
-joins-none l p q = rw (p, q)

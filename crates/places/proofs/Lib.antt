@@ -1,6 +1,6 @@
 pub mod Searches
 pub mod Places
 pub mod Stacks
-pub mod Facing
+pub mod Roots
 pub mod Chains
 pub mod Starts

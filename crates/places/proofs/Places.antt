@@ -1,26 +1,19 @@
 -- A frame that stands on a command of an accepted table: what is read there, and where the next command stands.
 use Prim.Native.Nat.{ℕ, _+_, _*_, _≤_, _<_}
 use native.Mathlib.Omega.{arith}
-use mathlib.Core.Path.{_≡_, sym, ap, _∙_}
+use mathlib.Core.Path.{_≡_, ap, _∙_}
 use mathlib.Core.List.{List, [], _∷_}
-use mathlib.Core.Logic.{⊎-elim}
 use mathlib.Core.Bool.{true, false}
 use lib.ListN.{length, getD, drop}
 use lib.Dec.{ltb}
 use borrow.Author.Tests.{ltb-true}
-use Rattle.program.specs.Command.{widthAt, opcode, rowOf, width, held, isEnd}
+use Rattle.program.specs.Command.{width, held, isEnd}
 use Rattle.program.specs.Reading.{read}
 use Rattle.program.specs.Bodies.{Body, programOf, from, headOf, tailOf}
 use Rattle.program.specs.Scan.{scan, layoutOf}
 use Rattle.program.specs.declared.command.Command.the-variants.{End}
-use Rattle.program.specs.declared.command.Command.{Command}
-use Rattle.program.specs.declared.reading.Reading.{Reading}
-use Rattle.program.specs.declared.reading.Reading.the-variants.{Whole, Unknown, Cut, Outside}
-use types.Run
-use denote.Enum
-use Rattle.program.proofs.reading.Reading
+use Rattle.program.specs.declared.reading.Reading.the-variants.{Whole}
 use Rattle.program.proofs.Basic.{and-true}
-use Rattle.program.proofs.RowLaws.{width-few}
 use Rattle.program.proofs.Shape.{Sound, stride}
 use Rattle.program.proofs.ShapeListed.{passes}
 use Rattle.program.proofs.ShapeLaws.{length-program, accepted, stride-is}
@@ -29,14 +22,6 @@ use Rattle.program.proofs.LocatedBytes.{read-code, read-code-inner, start-insid
 use Rattle.rules.specs.declared.state.Frame.{Frame}
 use Rattle.rules.specs.Tree.{rest, here, nextOffset}
 use Rattle.rules.specs.WellFormed.{isPlaced}
-use Rattle.places.specs.Known.{On}
-
--- A reading that is not whole.
-pub not-whole : {x : Command} {n : ℕ} (r : Reading) → types.Run.OneOf (1 ∷ 2 ∷ 3 ∷ []) (denote.Enum.Declared.tagOf Rattle.program.proofs.reading.Reading.the-type r) → r ≡ Whole x n → ⊥
-not-whole (Whole y m) h e = ⊎-elim (λ z. omega arith) (⊎-elim (λ z. omega arith) (λ z. omega arith)) h
-not-whole Unknown h e = let z : _≡_ {A = ℕ} 0 1 = cc in omega arith
-not-whole Cut h e = let z : _≡_ {A = ℕ} 0 1 = cc in omega arith
-not-whole Outside h e = let z : _≡_ {A = ℕ} 0 1 = cc in omega arith
 
 module _ (t : List ℕ) (ok : scan t ≡ 0) (f : Frame) (on : isPlaced (programOf t) f ≡ true) where
   -- Its body is one of the program's.
@@ -91,19 +76,3 @@ module _ (t : List ℕ) (ok : scan t ≡ 0) (f : Frame) (on : isPlaced (programO
 
     pub next-small : nextOffset (programOf t) f < 2048
     next-small = rw next-stride (place-small t ok (f .body) body-counted (f .offset + stride (here (programOf t) f)) (stands-here .next ∙ left-after))
-
--- The same where the frame stands on the command.
-module _ {t : List ℕ} {f : Frame} {command : Command} (on : On t f command) (goes : isEnd command ≡ false) where
-  goes-here : isEnd (here (programOf t) f .command) ≡ false
-  goes-here = ap isEnd (sym (on .stands)) ∙ goes
-
-  pub next-sum : nextOffset (programOf t) f ≡ f .offset + width command + 2 * held command
-  next-sum = rw (on .stands) (next-is t (on .scanned) f (on .placed) goes-here)
-
-  pub next-low : nextOffset (programOf t) f < 2048
-  next-low = next-small t (on .scanned) f (on .placed) goes-here
-
--- A command is a few bytes.
-pub width-small : (c : Command) → width c ≤ 5
-unfolding width widthAt rowOf
-width-small c = width-few (opcode c)

@@ -2,14 +2,13 @@
 use Prim.Native.Nat.{ℕ}
 use mathlib.Core.Path.{_≡_}
 use mathlib.Core.List.{List}
-use mathlib.Core.Bool.{true, false}
-use Rattle.program.specs.Command.{isEnd}
+use mathlib.Core.Bool.{true}
 use Rattle.program.specs.Bodies.{programOf}
 use Rattle.program.specs.Scan.{scan, layoutOf}
 use Rattle.program.specs.declared.command.Command.{Command}
 use Rattle.rules.specs.declared.state.Frame.{Frame}
 use Rattle.rules.specs.declared.state.State.{State}
-use Rattle.rules.specs.Tree.{here, nextOffset}
+use Rattle.rules.specs.Tree.{here}
 use Rattle.rules.specs.WellFormed.{isPlaced, wellFormed}
 
 pub record Known (t : List ℕ) (starts : List ℕ) : Type 0 where
@@ -26,7 +25,3 @@ pub record On (t : List ℕ) (f : Frame) (command : Command) : Type 0 where
   pub scanned : scan t ≡ 0
   pub placed : isPlaced (programOf t) f ≡ true
   pub stands : command ≡ here (programOf t) f .command
-
--- The place of the command after one that is not END, whichever the table is.
-unfoldable pub Onward : Frame → Command → ℕ → Type 0
-Onward f command next = (t : List ℕ) → On t f command → isEnd command ≡ false → next ≡ nextOffset (programOf t) f

@@ -1,3 +1,3 @@
 pub mod Known
 pub mod Stack
-pub mod Facing
+pub mod Rooted

@@ -19,7 +19,7 @@ use Rattle.rules.specs.Waiting.{unendedInside}
 use Rattle.rules.proofs.Tests.{decide, true-false, and-true, or-true}
 use Rattle.rules.proofs.Search.{someBelow-all, chain-above}
 use Rattle.encoding.specs.Encode.{statusByte}
-use Rattle.places.specs.Facing.{Rooted}
+use Rattle.places.specs.Rooted.{Rooted}
 use Rattle.places.proofs.Chains.{Passed, joined, passed-on, passed-hit, passed-ended, passed-outside, passed-end, none-above}
 use Rattle.fields.specs.Lent.{Lent, Gets, Reads, ReadsAct}
 use Rattle.fields.proofs.Stands.{own-number}

@@ -28,10 +28,11 @@ use Rattle.rules.specs.Waiting.{behindOf, unendedBelow, unendedInside, waitsFor
 use Rattle.rules.specs.Steps.{at, fault, waits}
 use Rattle.rules.proofs.WellFormedFacts.{Facts, facts}
 use Rattle.places.specs.Known.{Known}
-use Rattle.places.specs.Facing.{Placed}
+use Rattle.places.specs.Rooted.{Placed}
 use Rattle.places.specs.Known.{Fit}
 use Rattle.places.proofs.Chains.{unended-below}
-use Rattle.places.proofs.Facing.{nobody-waited, guard-shut, guard-open, placed, rooted}
+use Rattle.places.proofs.Searches.{nobody-waited, guard-shut, guard-open}
+use Rattle.places.proofs.Roots.{placed, rooted}
 use Rattle.fields.specs.Lent.{Lent, ReadsAct}
 use Rattle.moves.proofs.Ranges.{ranged-at}
 use Rattle.moves.specs.Moves.{ReadFault}

@@ -21,7 +21,7 @@ use Rattle.rules.specs.Steps.{at, waits}
 use Rattle.encoding.specs.Bytes.{encodeEach}
 use Rattle.encoding.specs.Encode.{encodeHold}
 use Rattle.places.specs.Known.{Known}
-use Rattle.places.specs.Facing.{Rooted, Placed}
+use Rattle.places.specs.Rooted.{Rooted, Placed}
 use Rattle.fields.specs.Lent.{FineActivity, Lent}
 
 -- PASSING
