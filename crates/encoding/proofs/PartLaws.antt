@@ -149,6 +149,45 @@ read-done {a = a} {n = n} {i = i} l h =
 
 -- THE LOOP THAT WRITES
 
+-- behind h bytes p, the first i entries are written
+abbrev pub Behind : {A : Type 0} → ℕ → List ℕ → (A → List ℕ) → List A → ℕ → ℕ → ℕ → List ℕ → Type 0
+Behind h p f xs k n i l = (i ≤ n) × Upto l (h + k * n) (h + k * i) (p ++ encodeEach f (take i xs))
+
+-- none is written
+pub behind-none : {A : Type 0} (h : ℕ) (p : List ℕ) (f : A → List ℕ) (xs : List A) (k n : ℕ) (l : List ℕ) → Upto l (h + k * n) h p → Behind h p f xs k n 0 l
+unfolding encodeEach
+behind-none h p f xs k n l u =
+    let z : h + k * 0 ≡ h = rw mul-zero (omega arith) in
+    (omega arith, record { full = u .full; done = ap (λ (m : ℕ). take m l) z ∙ u .done ∙ sym (append-nil p) })
+
+-- one entry more is written
+pub behind-more : {A : Type 0} (h : ℕ) (p : List ℕ) (f : A → List ℕ) (xs : List A) (k n i : ℕ) (d : A) (l e : List ℕ) → Behind h p f xs k n i l → length xs ≡ n → i < n
+    → length e ≡ length (take (h + k * i + k - (h + k * i)) (drop (h + k * i) l)) → e ≡ f (getD xs i d)
+    → Behind h p f xs k n (i + 1) (putMid (h + k * i) (h + k * i + k - (h + k * i)) l e)
+behind-more h p f xs k n i d l e u o j w v =
+    let t : k * i + k ≤ k * n = turn-fits k j in
+    let z : h + k * i + k ≡ h + k * (i + 1) = rw (add-one, mul-suc) (omega arith) in
+    let r = put k (h + k * i + k - (h + k * i)) e (f (getD xs i d)) (u .1) (omega arith) (omega arith) w v in (
+      omega arith,
+      record {
+        full = r .full;
+        done =
+            ap (λ (m : ℕ). take m (putMid (h + k * i) (h + k * i + k - (h + k * i)) l e)) (sym z)
+            ∙ r .done
+            ∙ append-assoc p (encodeEach f (take i xs)) (f (getD xs i d))
+            ∙ ap (λ (x : List ℕ). p ++ x) (sym (encodeEach-more f xs i d (omega arith)) ∙ rw add-one);
+      },
+    )
+
+-- all are written
+pub behind-done : {A : Type 0} (h : ℕ) (p : List ℕ) (f : A → List ℕ) (xs : List A) (k n i : ℕ) (l : List ℕ) → Behind h p f xs k n i l → length xs ≡ n → n ≤ i → l ≡ p ++ encodeEach f xs
+behind-done h p f xs k n i l u o j =
+    let q : i ≡ n = omega arith in
+    let v : Upto l (h + k * n) (h + k * n) (p ++ encodeEach f (take n xs)) = rw q at (u .1) in
+    all v ∙ rw (take-all n xs (omega arith))
+
+-- THE LOOP THAT WRITES
+
 -- the first i entries are written
 abbrev pub Each : {A : Type 0} → (A → List ℕ) → List A → ℕ → ℕ → ℕ → List ℕ → Type 0
 Each f xs k n i l = (i ≤ n) × Upto l (k * n) (k * i) (encodeEach f (take i xs))

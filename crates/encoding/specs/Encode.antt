@@ -51,12 +51,15 @@ encodeActivity a =
 unfoldable pub encodeAccumulator : Accumulator → List ℕ
 encodeAccumulator c = bytesOf 4 (c .value) ++ (c .owner ∷ operatorNumber (c .operator) ∷ []) ++ replicate 18 0
 
--- "a buffer of exactly 13,776 bytes"
-unfoldable pub encodeState : State → List ℕ
-encodeState s =
+-- What is no activity comes first: 464 bytes.
+abbrev pub encodeHead : State → List ℕ
+encodeHead s =
     (version ∷ s .activities ∷ s .clocks ∷ s .accumulators ∷ [])
     ++ bytesOf 4 (s .steps)
     ++ replicate 8 0
     ++ encodeEach (bytesOf 4) (s .cells)
     ++ encodeEach encodeAccumulator (s .accs)
-    ++ encodeEach encodeActivity (s .acts)
+
+-- "a buffer of exactly 13,776 bytes"
+unfoldable pub encodeState : State → List ℕ
+encodeState s = encodeHead s ++ encodeEach encodeActivity (s .acts)

@@ -2,14 +2,14 @@
 ghost use mathlib.Core.Path.{_≡_};
 ghost use mathlib.Core.Bool.{true};
 ghost use lib.ListN.{length};
-ghost use Rattle.encoding.specs.Encode.{encodeState};
+ghost use Rattle.encoding.specs.Encode.{encodeHead, encodeState};
 ghost use Rattle.encoding.specs.Decode.{stateOf, fieldsEncode};
 use super::accumulators::accumulators_at;
 use super::accumulators::accumulators_encode;
 use super::accumulators::put_accumulators;
 use super::activities::activities_at;
 use super::activities::activities_encode;
-use super::activities::put_activities;
+use super::activities::put_activity;
 use super::numbers::LIMIT;
 use super::numbers::are_zero;
 use super::numbers::cells_at;
@@ -62,14 +62,13 @@ pub fn state_at(bytes: &[u8]) -> State
     }
 }
 
-// The bytes of a state.
-pub fn put_state(s: State, out: &mut [u8])
-    requires { ⌜ length (now out) ≡ 13776 ⌝ }
-    ensures { λ _. ⌜ now (out .exit) ≡ encodeState s ⌝ }
+// The bytes before the activities.
+fn put_head(s: State, out: &mut [u8])
+    requires { ⌜ length (now out) ≡ 464 ⌝ }
+    ensures { λ _. ⌜ now (out .exit) ≡ encodeHead s ⌝ }
 {
     let cells = s.cells;
     let accs = s.accs;
-    let acts = s.acts;
     out[0] = 1;
     out[1] = s.activities;
     out[2] = s.clocks;
@@ -78,5 +77,19 @@ pub fn put_state(s: State, out: &mut [u8])
     put_zeros(&mut out[8..16]);
     put_cells(cells, &mut out[16..80]);
     put_accumulators(accs, &mut out[80..464]);
-    put_activities(acts, &mut out[464..13776]);
+}
+
+// The bytes of a state. Its activities go one by one: handed on whole, they would be copied.
+pub fn put_state(s: State, out: &mut [u8])
+    requires { ⌜ length (now out) ≡ 13776 ⌝ }
+    ensures { λ _. ⌜ now (out .exit) ≡ encodeState s ⌝ }
+{
+    put_head(s, &mut out[0..464]);
+    let mut i = 0;
+    while i < 64 {
+        let at = 464 + 208 * i;
+        let a = s.acts[i];
+        put_activity(a, &mut out[at..at + 208]);
+        i += 1;
+    }
 }

@@ -3,12 +3,17 @@ ghost use mathlib.Core.Path.{_≡_};
 ghost use Rattle.rules.specs.Steps.{base, start, step, ready, registrations, registrationsNumber};
 ghost use Rattle.machine.specs.Ran.{Runs};
 ghost use Rattle.machine.specs.Numbers.{isRefusal, answerOf};
-use after::state_after;
+use after::activity_in;
+use after::entry_of;
+use encoding::accumulators::accumulators_at;
 use encoding::decode;
 use encoding::encode;
+use encoding::numbers::cells_at;
+use encoding::numbers::number;
 use fields::activities::status_at;
 use parts::empty::start_state;
 use parts::empty::zero_state;
+use program::command::wide;
 use program::table::read_table;
 use rules::answer::Answer;
 use rules::answer::Completion;
@@ -21,7 +26,7 @@ use sheet::sheet_of;
 use wellformed::check_state;
 
 mod sheet; // sheet.rt: the standing sheet by value
-mod after; // after.rt: the state after a step
+mod after; // after.rt: the entries that a step can have changed
 
 // The start state of a table: numbers 1 to 12.
 pub fn start(table: &[u8]) -> Stepped
@@ -57,17 +62,31 @@ fn answer_of(number: u8, status: Status) -> Answer
     Answer::Accepted(status)
 }
 
-// A step of an activity, whichever the host picks: numbers 1 to 17.
+// A step of an activity, whichever the host picks: numbers 1 to 17. A step can have changed the entries of two activities, and what is no activity.
 pub fn step(table: &[u8], s: State, activity: usize) -> Stepped
     ensures { λ r. ⌜ r ≡ step base (now (table .entry)) s activity ⌝ }
 {
+    let own = entry_of(activity);
+    let free = entry_of(wide(s.activities));
+    let mut acts = s.acts;
     let mut bytes = [0u8; 13776];
     encode(s, &mut bytes);
-    let number = calls::step(table, &mut bytes, activity);
+    let told = calls::step(table, &mut bytes, activity);
     let status = status_at(&bytes, activity);
+    acts[own] = activity_in(&bytes, own);
+    acts[free] = activity_in(&bytes, free);
+    let steps = number(&bytes[4..8]) as u16;
     Stepped {
-        answer: answer_of(number, status),
-        state: state_after(s, &bytes, activity),
+        answer: answer_of(told, status),
+        state: State {
+            cells: cells_at(&bytes[16..80]),
+            acts,
+            accs: accumulators_at(&bytes[80..464]),
+            steps,
+            activities: bytes[1],
+            clocks: bytes[2],
+            accumulators: bytes[3],
+        },
     }
 }
 

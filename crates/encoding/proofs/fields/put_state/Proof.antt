@@ -1,96 +1,57 @@
--- One field after the other.
-use Prim.Native.Nat.{ℕ}
+-- Behind the head the first i activities are written.
+use Prim.Native.Nat.{_+_, _-_, _*_}
 use native.Mathlib.Omega.{arith}
-use mathlib.Core.List.{List, [], _∷_, _++_}
-use mathlib.Core.Path.{refl, sym, _∙_}
-use lib.ListN.{replicate, set, length-set}
-use borrow.Rule.Slice.PartMut.{putMid}
-use Rattle.rules.specs.declared.state.State.{State}
-use Rattle.encoding.specs.Bytes.{bytesOf, encodeEach}
-use Rattle.encoding.specs.Encode.{encodeAccumulator, encodeState}
-use Rattle.encoding.proofs.FieldLaws.{Upto, none-yet, store, put, put-of, all}
+use mathlib.Core.Path.{_≡_, refl, sym, _∙_}
+use lib.ListN.{length, length-map}
+use Rattle.rules.proofs.state.Activity
+use Rattle.encoding.specs.Encode.{encodeActivity, encodeHead, encodeState}
+use Rattle.encoding.proofs.FieldLaws.{sized, none-yet, put}
+use Rattle.encoding.proofs.PartLaws.{Behind, behind-none, behind-more, behind-done}
 use borrow.Author.Needs.{needs}
 use Rattle.encoding.proofs.fields.put_state.Statement.{statement}
 use Rattle.encoding.proofs.fields.put_state.Tie as tie
 
--- the places before a call, each by the next one
-abbrev start : tie.After-slice-known2 → tie.Start
-start c = c .before .before .before .before .before .before .before .before .before
+abbrev Inv-loop : tie.InvT-loop
+Inv-loop out₀ s i₀ out i = Behind 464 (encodeHead s) encodeActivity (s .acts) 208 64 i out
 
-abbrev to-zeros : tie.After-slice-known3 → tie.After-slice-known2
-to-zeros c = c .before .before .before .before
+abbrev μ-loop : tie.MeasureT-loop
+μ-loop out₀ s i₀ out i = 64 - i
 
-abbrev to-cells : tie.After-slice-known4 → tie.After-slice-known3
-to-cells c = c .before .before .before .before
+loop-holds : tie.Need-loop-holds Inv-loop μ-loop
+loop-holds c =
+    let w = c .before .before .put-head in
+    let a = c .before .before .before .before .before in
+    behind-none 464 (encodeHead (a .args .t1)) encodeActivity (a .args .t1 .acts) 208 64 _ (put {l = a .args .out .now} 464 464 (w .last .1 .0) _ (none-yet _ 13776 (a .pre)) (omega arith) refl (w .kept .1 .0) (w .ensures))
 
-abbrev to-accumulators : tie.After-slice-known5 → tie.After-slice-known4
-to-accumulators c = c .before .before .before .before
+put-activity-requires : tie.Need-put-activity-requires Inv-loop μ-loop
+put-activity-requires c κs =
+    let l = c .before .before .before .loop in
+    sized (l .out) (464 + 208 * l .i) 208 (464 + 208 * l .i + 208 - (464 + 208 * l .i)) (omega arith) (omega (arith, l .inv .1 .full, c .before .before .loop-test .taken))
 
--- the bytes of a state up to each of them
-abbrev numbers : State → List ℕ
-numbers s = (1 ∷ s .activities ∷ s .clocks ∷ s .accumulators ∷ []) ++ bytesOf 4 (s .steps)
+-- There are 64 activities.
+many : (c : tie.Start Inv-loop μ-loop) → length (c .args .t1 .acts) ≡ 64
+many c = sym (length-map (c .args .t1 .acts) (Rattle.rules.proofs.state.Activity.the-field .into)) ∙ c .good .0 .1 .1 .1 .0 .1 .0 .1
 
-abbrev and-zeros : State → List ℕ
-and-zeros s = numbers s ++ replicate 8 0
+loop-again : tie.Need-loop-again Inv-loop μ-loop
+loop-again c =
+    let l = c .before .before .before .before .before .before .loop in
+    let a = c .before .before .before .before .before .before .before .before .before .before .before .before in
+    let w = c .before .before .put-activity in
+    behind-more 464 (encodeHead (a .args .t1)) encodeActivity (a .args .t1 .acts) 208 64 (l .i) _ _ (w .last .1 .0) (l .inv) (many a) (c .before .before .before .before .before .loop-test .taken) (w .kept .1 .0) (w .ensures)
 
-abbrev and-cells : State → List ℕ
-and-cells s = and-zeros s ++ encodeEach (bytesOf 4) (s .cells)
+same-length : tie.Need-same-length Inv-loop μ-loop
+same-length c = c .before .loop .inv .1 .full ∙ sym (c .before .before .before .before .before .before .before .pre)
 
-abbrev and-accumulators : State → List ℕ
-and-accumulators s = and-cells s ++ encodeEach encodeAccumulator (s .accs)
-
--- the bytes up to the reserved ones
-abbrev numbered-bytes : tie.After-slice-known2 → List ℕ
-numbered-bytes c =
-    let s = start c .args .s in
-    putMid 4 4 (set (set (set (set (start c .args .out .now) 0 1) 1 (s .activities)) 2 (s .clocks)) 3 (s .accumulators)) (c .before .before .put-number .last .1 .0)
-
-numbered : (c : tie.After-slice-known2) → Upto (numbered-bytes c) 13776 8 (numbers (start c .args .s))
-numbered c =
-    let s = start c .args .s in
-    let w = c .before .before .put-number in
-    let two = store (s .activities) (store 1 (none-yet (start c .args .out .now) 13776 (start c .pre)) (omega arith)) (omega arith) in
-    put-of 4 (λ k. bytesOf k (s .steps)) (w .last .1 .0) (store (s .accumulators) (store (s .clocks) two (omega arith)) (omega arith)) (omega arith) (w .kept .1 .0) (w .ensures)
-
--- the bytes up to the cells
-abbrev zeroed-bytes : tie.After-slice-known3 → List ℕ
-zeroed-bytes c = putMid 8 8 (numbered-bytes (to-zeros c)) (c .before .before .put-zeros .last .0)
-
-zeroed : (c : tie.After-slice-known3) → Upto (zeroed-bytes c) 13776 16 (and-zeros (start (to-zeros c) .args .s))
-zeroed c = let w = c .before .before .put-zeros in put-of 8 (λ k. replicate k 0) (w .last .0) (numbered (to-zeros c)) (omega arith) (w .kept .0) (w .ensures)
-
--- the bytes up to the accumulators
-abbrev celled-bytes : tie.After-slice-known4 → List ℕ
-celled-bytes c = putMid 16 64 (zeroed-bytes (to-cells c)) (c .before .before .put-cells .last .1 .0)
-
-celled : (c : tie.After-slice-known4) → Upto (celled-bytes c) 13776 80 (and-cells (start (to-zeros (to-cells c)) .args .s))
-celled c = let w = c .before .before .put-cells in put 64 64 (w .last .1 .0) _ (zeroed (to-cells c)) (omega arith) refl (w .kept .1 .0) (w .ensures)
-
--- the bytes up to the activities
-abbrev accumulated-bytes : tie.After-slice-known5 → List ℕ
-accumulated-bytes c = putMid 80 384 (celled-bytes (to-accumulators c)) (c .before .before .put-accumulators .last .1 .0)
-
-accumulated : (c : tie.After-slice-known5) → Upto (accumulated-bytes c) 13776 464 (and-accumulators (start (to-zeros (to-cells (to-accumulators c))) .args .s))
-accumulated c = let w = c .before .before .put-accumulators in put 384 384 (w .last .1 .0) _ (celled (to-accumulators c)) (omega arith) refl (w .kept .1 .0) (w .ensures)
-
--- all bytes
-acted : (c : tie.After-put-activities)
-    → Upto (putMid 464 13312 (accumulated-bytes (c .before .before)) (c .put-activities .last .1 .0)) 13776 13776
-    (encodeState (start (to-zeros (to-cells (to-accumulators (c .before .before)))) .args .s))
+returns : tie.Need-returns Inv-loop μ-loop
 unfolding encodeState
-acted c = let w = c .put-activities in put 13312 13312 (w .last .1 .0) _ (accumulated (c .before .before)) (omega arith) refl (w .kept .1 .0) (w .ensures)
-
-same-length : tie.Need-same-length
-same-length c = acted (c .before .before) .full ∙ sym (start (to-zeros (to-cells (to-accumulators (c .before .before .before .before)))) .pre)
+returns c =
+    let a = c .before .before .before .before .before .before .before in
+    behind-done 464 (encodeHead (a .args .t1)) encodeActivity (a .args .t1 .acts) 208 64 (c .before .loop .i) _ (c .before .loop .inv) (many a) (c .loop-test .left)
 
 pub put-state-spec : {M : Type 1} → statement M
 put-state-spec =
     tie.close
-    (tie.spec (λ slice-write-out. search needs) (λ slice-write-out-2. search needs) (λ slice-write-out-3. search needs) (λ slice-write-out-4. search needs)
-    (λ cast-put-number. search needs) (λ sub-put-number. search needs) (λ part-put-number-start. search needs)
-    (λ part-put-number-end. simp length-set (omega arith)) (λ put-number-requires κs. search needs) (λ sub-put-zeros. search needs)
-    (λ part-put-zeros-start. search needs) (λ c. omega (arith, numbered c .full)) (λ put-zeros-requires κs. search needs) (λ sub-put-cells. search needs)
-    (λ part-put-cells-start. search needs) (λ c. omega (arith, zeroed c .full)) (λ put-cells-requires κs. search needs) (λ sub-put-accumulators. search needs)
-    (λ part-put-accumulators-start. search needs) (λ c. omega (arith, celled c .full)) (λ put-accumulators-requires κs. search needs)
-    (λ sub-put-activities. search needs) (λ part-put-activities-start. search needs) (λ c. omega (arith, accumulated c .full))
-    (λ put-activities-requires κs. search needs) same-length (λ c. all (acted (c .before .before))))
+    (tie.spec Inv-loop μ-loop (λ sub-put-head. search needs) (λ part-put-head-start. search needs) (λ part-put-head-end. search needs) (λ put-head-requires κs. search needs)
+    loop-holds (λ mul-at. omega arith) (λ add-at. omega arith) (λ mul-a. omega arith) (λ element-copy-out-a. omega arith) (λ add-put-activity. omega arith)
+    (λ sub-put-activity. omega arith) (λ part-put-activity-start. omega arith) (λ part-put-activity-end. omega arith) put-activity-requires
+    (λ add-i. omega arith) (λ loop-less. omega arith) loop-again same-length returns)
