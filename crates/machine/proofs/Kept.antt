@@ -1,4 +1,4 @@
--- The state after a step is put together: what its bytes tell of an entry, and that all other entries are kept.
+-- The state after a step, put together from the one before it and from what the bytes of the step tell: all other entries are kept.
 use Prim.Native.Nat.{ℕ, _+_, _-_, _*_, _≤_, _<_}
 use native.Mathlib.Omega.{arith}
 use mathlib.Core.Path.{_≡_, refl, sym, _∙_}
@@ -18,7 +18,22 @@ use Rattle.encoding.specs.Decode.{activityAt, accumulatorAt, activityEncodes, f
 use Rattle.encoding.proofs.FieldLaws.{sized}
 use Rattle.encoding.proofs.PartLaws.{partsAt-at, partsPass-at}
 use Rattle.encoding.proofs.Passed.{state-passes}
-use Rattle.machine.specs.After.{entry, after}
+use Rattle.machine.specs.After.{entry}
+
+-- THE STATE
+
+-- The entry of the activity, that of one more than there were, and what is no activity are those of t; the other activities are those of s.
+unfoldable pub after : State → State → ℕ → State
+after s t i =
+    record {
+      cells = t .cells;
+      acts = set (set (s .acts) (entry i) (act t (entry i))) (entry (s .activities)) (act t (entry (s .activities)));
+      accs = t .accs;
+      steps = t .steps;
+      activities = t .activities;
+      clocks = t .clocks;
+      accumulators = t .accumulators;
+    }
 
 -- THE BYTES
 

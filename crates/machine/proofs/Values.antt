@@ -37,8 +37,7 @@ use Rattle.calls.specs.Calls.{stepNumber, stepBytes, readyNumber, readySet}
 use Rattle.calls.proofs.Lending.{lent-state}
 use Rattle.calls.proofs.Encoded.{step-number, step-bytes, ready-number, ready-set}
 use Rattle.machine.specs.Numbers.{isRefusal, answerOf}
-use Rattle.machine.specs.After.{after}
-use Rattle.machine.proofs.Kept.{own-after, together, same}
+use Rattle.machine.proofs.Kept.{after, own-after, together, same}
 
 -- THE BYTES OF A STATE
 
