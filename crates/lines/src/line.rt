@@ -1,5 +1,4 @@
 // The walk's lines. Each answers the place after its line.
-ghost use mathlib.Core.Path.{_≡_};
 ghost use Rattle.lines.specs.Put.{Put};
 ghost use Rattle.lines.specs.Text.{fieldOf, namedOf, headerOf, lineOf, totalOf, refusedOf};
 use super::put::put_byte;

@@ -1,7 +1,7 @@
 // The four counts of a table: work, activities, clocks and accumulators.
 ghost use mathlib.Core.Path.{_≡_};
-ghost use Prim.Native.Nat.{_+_, _<_, _≤_};
-ghost use lib.ListN.{getD, set};
+ghost use Prim.Native.Nat.{_+_, _<_};
+ghost use lib.ListN.{set};
 ghost use Rattle.program.specs.Scan.{scan, layoutOf};
 ghost use Rattle.program.specs.Inner.Coding.{weight};
 ghost use Rattle.program.specs.Inner.Counting.{cap, Small, Added, Counts, Counting, Filled};

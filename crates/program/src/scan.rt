@@ -1,7 +1,7 @@
 // A whole table: numbers 1 to 8.
 ghost use mathlib.Core.Path.{_≡_};
 ghost use Rattle.program.specs.Reading.{refusalOf, readings};
-ghost use Rattle.program.specs.Scan.{nameFits, placing, leftAfter, bodyAfter};
+ghost use Rattle.program.specs.Scan.{nameFits, placing, leftAfter};
 ghost use Rattle.program.specs.Inner.Scanned.{opening, extentOf, numberIn, refusedBy, scannedOf};
 use super::command::Command;
 use super::command::held;

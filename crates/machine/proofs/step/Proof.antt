@@ -63,20 +63,19 @@ spawned c = c .before .before .before
 abbrev counted : tie.After-cells-at → tie.After-number
 counted c = c .before .before .before .before
 
--- The entry of the activity, and the next free one.
+-- There are the entries of the activity and of the next free one.
+both : (c : tie.After-encode) → (entries c .before .before .entry-of .result < 64) × (entries c .entry-of2 .result < 64)
+both c = (entries c .before .before .entry-of .ensures .1, entries c .entry-of2 .ensures .1)
+
 activity-in-requires : tie.Need-activity-in-requires
 activity-in-requires c κs =
     let d = called (c .before) in
-    (passes d .0, (passes d .1, entries (encoded d) .before .before .entry-of .ensures .1))
+    (passes d .0, (passes d .1, omega (arith, both (encoded d) .0, both (encoded d) .1)))
 
 activity-in-requires-2 : tie.Need-activity-in-requires-2
 activity-in-requires-2 c κs =
     let d = called (stood (c .before)) in
-    (passes d .0, (passes d .1, entries (encoded d) .entry-of2 .ensures .1))
-
--- There is such an entry.
-free-fits : (c : tie.After-activity-in2) → entries (encoded (called (stood (stored c)))) .entry-of2 .result < 64
-free-fits c = entries (encoded (called (stood (stored c)))) .entry-of2 .ensures .1
+    (passes d .0, (passes d .1, omega (arith, both (encoded d) .0, both (encoded d) .1)))
 
 cast-steps : tie.Need-cast-steps
 cast-steps c =
@@ -103,8 +102,8 @@ step-spec =
     (tie.spec (λ entry-of-requires κs. search needs) (λ wide-requires κs. search needs) (λ entry-of-requires-2 κs. search needs) (λ slice-aggregate-encode. search needs)
     (λ encode-requires κs. search needs) (λ slice-aggregate-step. search needs) (λ step-requires κs. search needs) (λ slice-aggregate-status-at. search needs)
     (λ status-at-requires κs. search needs) (λ slice-aggregate-activity-in. search needs) activity-in-requires (λ mul-acts. search needs)
-    (λ array-set-from-acts. search needs) (λ slice-aggregate-activity-in-2. search needs) activity-in-requires-2 (λ c. search (needs, free-fits c))
-    (λ c. search (needs, free-fits c)) (λ sub-number. search needs) (λ part-number-start. search needs) (λ part-number-end. search needs)
+    (λ array-set-from-acts. search needs) (λ slice-aggregate-activity-in-2. search needs) activity-in-requires-2 (λ c. search (needs, both (encoded (called (stood (stored c))))))
+    (λ c. search (needs, both (encoded (called (stood (stored c)))))) (λ sub-number. search needs) (λ part-number-start. search needs) (λ part-number-end. search needs)
     (λ number-requires κs. search needs) cast-steps (λ answer-of-requires κs. search needs) (λ sub-cells-at. search needs) (λ part-cells-at-start. search needs)
     (λ part-cells-at-end. search needs) (λ cells-at-requires κs. search needs) (λ sub-accumulators-at. search needs) (λ part-accumulators-at-start. search needs)
     (λ part-accumulators-at-end. search needs) (λ accumulators-at-requires κs. search needs) (λ array-read-t48. search needs) (λ array-read-t51. search needs)
