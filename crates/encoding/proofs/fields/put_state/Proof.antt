@@ -37,7 +37,7 @@ loop-again c =
     let l = c .before .before .before .before .before .before .loop in
     let a = c .before .before .before .before .before .before .before .before .before .before .before .before in
     let w = c .before .before .put-activity in
-    behind-more 464 (encodeHead (a .args .t1)) encodeActivity (a .args .t1 .acts) 208 64 (l .i) _ _ (w .last .1 .0) (l .inv) (many a) (c .before .before .before .before .before .loop-test .taken) (w .kept .1 .0) (w .ensures)
+    behind-more 464 (encodeHead (a .args .t1)) encodeActivity (a .args .t1 .acts) 208 64 (l .i) _ _ (w .last .1 .0) (l .inv) (many a) (omega (arith, c .before .before .before .before .before .loop-test .taken)) (w .kept .1 .0) (w .ensures)
 
 same-length : tie.Need-same-length Inv-loop μ-loop
 same-length c = c .before .loop .inv .1 .full ∙ sym (c .before .before .before .before .before .before .before .pre)
