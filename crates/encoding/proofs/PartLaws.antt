@@ -149,65 +149,63 @@ read-done {a = a} {n = n} {i = i} l h =
 
 -- THE LOOP THAT WRITES
 
--- behind h bytes p, the first i entries are written
+-- behind bytes p and the first i entries, one entry more is written
+one-more : {A : Type 0} (p : List ℕ) (f : A → List ℕ) (xs : List A) (k m n i at to : ℕ) (d : A) (l e : List ℕ) → Upto l n at (p ++ encodeEach f (take i xs)) → i < length xs → at + k ≤ n → m ≡ k
+    → to ≡ at + k → length e ≡ length (take m (drop at l)) → e ≡ f (getD xs i d) → Upto (putMid at m l e) n to (p ++ encodeEach f (take (i + 1) xs))
+one-more p f xs k m n i at to d l e u h o j z w v =
+    let r = put k m e (f (getD xs i d)) u o j w v in
+    record {
+      full = r .full;
+      done =
+          ap (λ (x : ℕ). take x (putMid at m l e)) z
+          ∙ r .done
+          ∙ append-assoc p (encodeEach f (take i xs)) (f (getD xs i d))
+          ∙ ap (λ (x : List ℕ). p ++ x) (sym (encodeEach-more f xs i d h) ∙ rw add-one);
+    }
+
+-- all are written
+all-done : {A : Type 0} (p : List ℕ) (f : A → List ℕ) (xs : List A) (n i : ℕ) (l : List ℕ) → Upto l n n (p ++ encodeEach f (take i xs)) → length xs ≤ i → l ≡ p ++ encodeEach f xs
+all-done p f xs n i l u h = all u ∙ rw (take-all i xs h)
+
+-- of the entries alone, the first i are written
+abbrev pub Each : {A : Type 0} → (A → List ℕ) → List A → ℕ → ℕ → ℕ → List ℕ → Type 0
+Each f xs k n i l = (i ≤ n) × Upto l (k * n) (k * i) (encodeEach f (take i xs))
+
+pub write-none : {A : Type 0} (f : A → List ℕ) (xs : List A) (k n : ℕ) (l : List ℕ) → length l ≡ k * n → Each f xs k n 0 l
+unfolding encodeEach
+write-none f xs k n l h = (omega arith, rw mul-zero (none-yet l (k * n) h))
+
+pub write-more : {A : Type 0} (f : A → List ℕ) (xs : List A) (k n i : ℕ) (d : A) (l e : List ℕ) → Each f xs k n i l → length xs ≡ n → i < n
+    → length e ≡ length (take (k * i + k - k * i) (drop (k * i) l)) → e ≡ f (getD xs i d) → Each f xs k n (i + 1) (putMid (k * i) (k * i + k - k * i) l e)
+write-more f xs k n i d l e u h j w v =
+    (omega arith, one-more [] f xs k (k * i + k - k * i) (k * n) i (k * i) (k * (i + 1)) d l e (u .1) (omega arith) (turn-fits k j) (turn k i) (rw (add-one, mul-suc)) w v)
+
+pub write-done : {A : Type 0} (f : A → List ℕ) (xs : List A) (k n i : ℕ) (l : List ℕ) → Each f xs k n i l → length xs ≡ n → n ≤ i → l ≡ encodeEach f xs
+write-done f xs k n i l u h j =
+    let q : i ≡ n = omega arith in
+    let v : Upto l (k * n) (k * n) (encodeEach f (take n xs)) = rw q at (u .1) in
+    all-done [] f xs (k * n) n l v (omega arith)
+
+-- of the entries behind h bytes p, the first i are written
 abbrev pub Behind : {A : Type 0} → ℕ → List ℕ → (A → List ℕ) → List A → ℕ → ℕ → ℕ → List ℕ → Type 0
 Behind h p f xs k n i l = (i ≤ n) × Upto l (h + k * n) (h + k * i) (p ++ encodeEach f (take i xs))
 
--- none is written
 pub behind-none : {A : Type 0} (h : ℕ) (p : List ℕ) (f : A → List ℕ) (xs : List A) (k n : ℕ) (l : List ℕ) → Upto l (h + k * n) h p → Behind h p f xs k n 0 l
 unfolding encodeEach
 behind-none h p f xs k n l u =
     let z : h + k * 0 ≡ h = rw mul-zero (omega arith) in
     (omega arith, record { full = u .full; done = ap (λ (m : ℕ). take m l) z ∙ u .done ∙ sym (append-nil p) })
 
--- one entry more is written
 pub behind-more : {A : Type 0} (h : ℕ) (p : List ℕ) (f : A → List ℕ) (xs : List A) (k n i : ℕ) (d : A) (l e : List ℕ) → Behind h p f xs k n i l → length xs ≡ n → i < n
     → length e ≡ length (take (h + k * i + k - (h + k * i)) (drop (h + k * i) l)) → e ≡ f (getD xs i d)
     → Behind h p f xs k n (i + 1) (putMid (h + k * i) (h + k * i + k - (h + k * i)) l e)
 behind-more h p f xs k n i d l e u o j w v =
     let t : k * i + k ≤ k * n = turn-fits k j in
-    let z : h + k * i + k ≡ h + k * (i + 1) = rw (add-one, mul-suc) (omega arith) in
-    let r = put k (h + k * i + k - (h + k * i)) e (f (getD xs i d)) (u .1) (omega arith) (omega arith) w v in (
-      omega arith,
-      record {
-        full = r .full;
-        done =
-            ap (λ (m : ℕ). take m (putMid (h + k * i) (h + k * i + k - (h + k * i)) l e)) (sym z)
-            ∙ r .done
-            ∙ append-assoc p (encodeEach f (take i xs)) (f (getD xs i d))
-            ∙ ap (λ (x : List ℕ). p ++ x) (sym (encodeEach-more f xs i d (omega arith)) ∙ rw add-one);
-      },
-    )
+    let z : h + k * (i + 1) ≡ h + k * i + k = rw (add-one, mul-suc) (omega arith) in
+    (omega arith, one-more p f xs k (h + k * i + k - (h + k * i)) (h + k * n) i (h + k * i) (h + k * (i + 1)) d l e (u .1) (omega arith) (omega arith) (omega arith) z w v)
 
--- all are written
 pub behind-done : {A : Type 0} (h : ℕ) (p : List ℕ) (f : A → List ℕ) (xs : List A) (k n i : ℕ) (l : List ℕ) → Behind h p f xs k n i l → length xs ≡ n → n ≤ i → l ≡ p ++ encodeEach f xs
 behind-done h p f xs k n i l u o j =
     let q : i ≡ n = omega arith in
     let v : Upto l (h + k * n) (h + k * n) (p ++ encodeEach f (take n xs)) = rw q at (u .1) in
-    all v ∙ rw (take-all n xs (omega arith))
-
--- THE LOOP THAT WRITES
-
--- the first i entries are written
-abbrev pub Each : {A : Type 0} → (A → List ℕ) → List A → ℕ → ℕ → ℕ → List ℕ → Type 0
-Each f xs k n i l = (i ≤ n) × Upto l (k * n) (k * i) (encodeEach f (take i xs))
-
--- none is written
-pub write-none : {A : Type 0} (f : A → List ℕ) (xs : List A) (k n : ℕ) (l : List ℕ) → length l ≡ k * n → Each f xs k n 0 l
-unfolding encodeEach
-write-none f xs k n l h = (omega arith, rw mul-zero (none-yet l (k * n) h))
-
--- one entry more is written
-pub write-more : {A : Type 0} (f : A → List ℕ) (xs : List A) (k n i : ℕ) (d : A) (l e : List ℕ) → Each f xs k n i l → length xs ≡ n → i < n
-    → length e ≡ length (take (k * i + k - k * i) (drop (k * i) l)) → e ≡ f (getD xs i d) → Each f xs k n (i + 1) (putMid (k * i) (k * i + k - k * i) l e)
-write-more f xs k n i d l e u h j w v = (
-  omega arith,
-  rw (add-one, mul-suc, encodeEach-more f xs i d (omega arith)) (put k _ e (f (getD xs i d)) (u .1) (turn-fits k j) (turn k i) w v),
-)
-
--- all are written
-pub write-done : {A : Type 0} (f : A → List ℕ) (xs : List A) (k n i : ℕ) (l : List ℕ) → Each f xs k n i l → length xs ≡ n → n ≤ i → l ≡ encodeEach f xs
-write-done f xs k n i l u h j =
-    let q : i ≡ n = omega arith in
-    let v : Upto l (k * n) (k * n) (encodeEach f (take n xs)) = rw q at (u .1) in
-    all v ∙ rw (take-all n xs (omega arith))
+    all-done p f xs (h + k * n) n l v (omega arith)

@@ -7,7 +7,7 @@ use lib.ListN.{replicate, set, length-set}
 use borrow.Rule.Slice.PartMut.{putMid}
 use Rattle.rules.specs.declared.state.State.{State}
 use Rattle.encoding.specs.Bytes.{bytesOf, encodeEach}
-use Rattle.encoding.specs.Encode.{encodeAccumulator}
+use Rattle.encoding.specs.Encode.{encodeHead}
 use Rattle.encoding.proofs.FieldLaws.{Upto, none-yet, store, put, put-of, all}
 use borrow.Author.Needs.{needs}
 use Rattle.encoding.proofs.fields.put_head.Statement.{statement}
@@ -35,9 +35,6 @@ and-zeros s = numbers s ++ replicate 8 0
 
 abbrev and-cells : State → List ℕ
 and-cells s = and-zeros s ++ encodeEach (bytesOf 4) (s .cells)
-
-abbrev and-accumulators : State → List ℕ
-and-accumulators s = and-cells s ++ encodeEach encodeAccumulator (s .accs)
 
 -- the bytes up to the reserved ones
 abbrev numbered-bytes : tie.After-slice-known2 → List ℕ
@@ -70,7 +67,7 @@ celled c = let w = c .before .before .put-cells in put 64 64 (w .last .1 .0) _ (
 abbrev accumulated-bytes : tie.After-slice-known5 → List ℕ
 accumulated-bytes c = putMid 80 384 (celled-bytes (to-accumulators c)) (c .before .before .put-accumulators .last .1 .0)
 
-accumulated : (c : tie.After-slice-known5) → Upto (accumulated-bytes c) 464 464 (and-accumulators (start (to-zeros (to-cells (to-accumulators c))) .args .s))
+accumulated : (c : tie.After-slice-known5) → Upto (accumulated-bytes c) 464 464 (encodeHead (start (to-zeros (to-cells (to-accumulators c))) .args .s))
 accumulated c = let w = c .before .before .put-accumulators in put 384 384 (w .last .1 .0) _ (celled (to-accumulators c)) (omega arith) refl (w .kept .1 .0) (w .ensures)
 
 same-length : tie.Need-same-length
