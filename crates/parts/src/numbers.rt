@@ -78,7 +78,7 @@ pub fn status_answer(status: Status) -> u8
     }
 }
 
-// What the walk program prints for an answer.
+// The number of an answer, for a host that steps by value.
 pub fn answer_number(answer: Answer) -> u8
     ensures { λ r. ⌜ r ≡ answerNumber answer ⌝ }
 {

@@ -157,10 +157,6 @@ module _ {p : Program} (ok : Accepted p) (b : ℕ) (h : b < length p) where
     pub end-last : isEnd (x .command) ≡ true → r ≡ []
     end-last e = onward-end found-onward e
 
-    -- After any other command there is a next place.
-    pub next-place : isEnd (x .command) ≡ false → isPlace (getD p b []) (o + stride x) ≡ true
-    next-place e = from-place (getD p b []) (o + stride x) (found .next ∙ onward-goes found-onward e)
-
   -- The next command stands where this one ends.
   pub next-offset : (o : ℕ) {x y : Located} {r : Body} → from (getD p b []) o ≡ x ∷ (y ∷ r) → y .offset ≡ o + stride x
   next-offset o at = let e = found o at .offset in let f = onward-offset (found-onward o at) in omega arith

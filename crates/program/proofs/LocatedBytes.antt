@@ -1,7 +1,7 @@
 -- The commands of an accepted table's program in the bytes of the table: each is read where its body's first byte and its offset say.
 use Prim.Native.Nat.{ℕ, zero, suc, _+_, _*_, _-_, _≤_, _<_}
 use native.Mathlib.Omega.{arith}
-use mathlib.Core.Path.{_≡_, refl, sym, ap, _∙_}
+use mathlib.Core.Path.{_≡_, refl, ap, _∙_}
 use mathlib.Core.List.{List, [], _∷_}
 use lib.ListN.{length, getD, drop, length-append, length-replicate, length-drop}
 use lib.Seq.{drop-drop}
@@ -40,11 +40,6 @@ length-starts t ok =
     let few = passes t ok .few in
     simp (length-append, length-from, length-replicate) (omega arith)
 
--- A layout has as many bodies as the program.
-pub layout-bodies : (t : List ℕ) → layoutOf t .bodies ≡ length (programOf t)
-unfolding layoutOf
-layout-bodies t = sym (length-program t)
-
 -- A body begins after byte 0 and the bytes of the bodies before it.
 pub start-is : (t : List ℕ) (b : ℕ) → b < getD t 0 0 → getD (layoutOf t .starts) b 0 ≡ 1 + before b (commandsOf t)
 unfolding layoutOf
@@ -77,13 +72,6 @@ module _ (t : List ℕ) (ok : scan t ≡ 0) (b : ℕ) (h : b < getD t 0 0) where
     -- In the table.
     pub read-table : read (drop (getD (layoutOf t .starts) b 0 + o) t) ≡ Whole (x .command) (width (x .command))
     read-table = rw drop-drop at read-code
-
-    pub read-table-inner : (j : ℕ) → j < length (x .inner)
-        → read (drop (getD (layoutOf t .starts) b 0 + o + width (x .command) + 2 * j) t) ≡ Whole (getD (x .inner) j End) 2
-    read-table-inner j l =
-        let s = getD (layoutOf t .starts) b 0 in
-        let e : s + (o + width (x .command) + 2 * j) ≡ s + o + width (x .command) + 2 * j = omega arith in
-        rw (drop-drop, e) at (read-code-inner j l)
 
     -- The command's bytes lie inside the table.
     pub command-inside : getD (layoutOf t .starts) b 0 + o + width (x .command) ≤ length t

@@ -6,10 +6,10 @@ use native.Mathlib.Decide.{decLe}
 use mathlib.Core.Path.{_≡_, refl, ap, subst, _∙_}
 use mathlib.Core.List.{List, [], _∷_}
 use mathlib.Core.Bool.{Bool, true, false, cond}
-use lib.ListN.{length, getD, replicate, length-append, length-replicate, length-drop, getD-replicate, List·getD-append}
+use lib.ListN.{length, getD, replicate, length-replicate, getD-replicate, List·getD-append}
 use lib.Seq.{getD-append-add}
 use lib.Dec.{eqb}
-use borrow.Author.Tests.{eqb-true, eq-eqb, ne-eqb}
+use borrow.Author.Tests.{eq-eqb, ne-eqb}
 use Rattle.program.specs.Command.{width, held, isEnd}
 use Rattle.program.specs.Reading.{commandsOf}
 use Rattle.program.specs.Bodies.{firstBody, afterEnd, locate, programOf, isPlace}
@@ -18,7 +18,7 @@ use Rattle.program.specs.Places.{marks, tableMarks, placesOf}
 use Rattle.program.specs.declared.command.Command.{Command}
 use Rattle.program.proofs.Basic.{getD-padded}
 use Rattle.program.proofs.ShapeRows.{width-pos}
-use Rattle.program.proofs.ShapeListed.{Listed, over, next, none-left, next-body, listed-bytes, passes, onwards, before}
+use Rattle.program.proofs.ShapeListed.{Listed, over, next, none-left, next-body, passes, onwards, before}
 use Rattle.program.proofs.ShapeLaws.{body-at}
 use Rattle.program.proofs.LocatedBytes.{start-is}
 
@@ -144,29 +144,6 @@ marks-at {i = i} {cs = cs} (suc b) l h o =
     let e : i + suc b ≡ i + 1 + b = omega arith in
     let f : bytes (firstBody cs) + before b (afterEnd cs) + o ≡ bytes (firstBody cs) + (before b (afterEnd cs) + o) = omega arith in
     rw (e, f) (marks-next l (omega arith) _ ∙ marks-at b (next-body l (omega arith)) (omega arith) o)
-
--- There is a mark for each byte.
-length-marks : (cs : List Command) (i left : ℕ) → length (marks i left cs) ≡ bytes cs
-unfolding marks bytes
-length-marks [] i left = refl
-length-marks (c ∷ cs) i left =
-    let w = width-pos c in
-    let e = length-marks cs (bodyAfter i c) (leftAfter left c) in
-    simp (length-append, length-replicate) (omega arith)
-
--- Of a table there are 2,048 marks, whatever the table.
-pub length-places : (t : List ℕ) → length (placesOf t) ≡ 2048
-unfolding placesOf tableMarks
-length-places t = by (eqb (scan t) 0) refl
-  where
-    by : (q : Bool) → eqb (scan t) 0 ≡ q → length (cond q (tableMarks (commandsOf t)) (replicate 2048 0)) ≡ 2048
-    by true q =
-        let p = passes t (eqb-true _ _ q) in
-        let e = length-marks (commandsOf t) 0 0 in
-        let f = rw length-drop at (listed-bytes (p .listed)) in
-        let g = p .short in
-        simp (length-append, length-replicate) (omega arith)
-    by false q = length-replicate {A = ℕ} 2048 0
 
 -- The mark of a byte of a body is the body's where a command of the body stands there, and only there.
 pub marked : (t : List ℕ) → scan t ≡ 0 → (b : ℕ) → b < getD t 0 0 → (o : ℕ)

@@ -55,12 +55,6 @@ zeros-split : (a b n : ℕ) → a + b ≡ n → _≡_ {A = List ℕ} (replicate 
 zeros-split a b n e = ap (λ (j : ℕ). replicate j 0) (sym e) ∙ sym (replicate-append-replicate a b 0)
 
 module _ {t : List ℕ} {n i at left : ℕ} {m : List ℕ} (p : Marking t n i at left m) where
-  pub marking-long : length t ≤ 2048 → length m ≡ 2048
-  marking-long most =
-      let i = p .inside in
-      let l = p .long in
-      ap length (p .split) ∙ simp (length-append, length-replicate) (omega arith)
-
   -- A reading that is no whole command turns the table down.
   pub marking-stop : (r : Reading) → r ≡ read (drop at t) → (refusalOf r ≡ 0 → ⊥) → at < length t → scan t ≡ 0 → ⊥
   unfolding verdict

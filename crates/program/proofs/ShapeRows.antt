@@ -142,14 +142,6 @@ pub width-is : (c : Command) → width c ≡ saying c .width
 unfolding saidOf
 width-is c = ap (λ (s : Saying). s .width) (said c)
 
-pub isEnd-is : (c : Command) → isEnd c ≡ saying c .isEnd
-unfolding saidOf
-isEnd-is c = ap (λ (s : Saying). s .isEnd) (said c)
-
-pub usesCell-is : (c : Command) → usesCell c ≡ saying c .usesCell
-unfolding saidOf
-usesCell-is c = ap (λ (s : Saying). s .usesCell) (said c)
-
 pub names-is : (c : Command) → names c ≡ saying c .names
 unfolding saidOf
 names-is c = ap (λ (s : Saying). s .names) (said c)

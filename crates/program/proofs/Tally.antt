@@ -13,7 +13,7 @@ use Rattle.program.specs.declared.command.Command.{Command}
 use Rattle.program.proofs.Shape.{Sound, stride, Shaped, Accepted}
 use Rattle.program.proofs.ShapeRows.{times-none, closing}
 use Rattle.program.proofs.ShapeLaws.{Each}
-use Rattle.program.proofs.Located.{from-start, found, end-last}
+use Rattle.program.proofs.Located.{found, end-last}
 
 -- Each command of a body of its shape is sound.
 shaped-each : (n b : ℕ) (body : Body) → Shaped n b body → Each (Sound n b) body
@@ -62,21 +62,13 @@ unfoldable pub leftOf : (Command → ℕ) → Program → ℕ → ℕ → ℕ
 leftOf own p b o = sumOver own (tally own p) (from (getD p b []) o)
 
 module _ {p : Program} (ok : Accepted p) (own : Command → ℕ) (b : ℕ) (h : b < length p) where
-  -- From offset 0 all of the body is left.
-  pub left-start : leftOf own p b 0 ≡ tally own p b
-  unfolding leftOf
-  left-start = rw (from-start ok b h) (sym (tally-is ok own b h))
-
   module _ (o : ℕ) {x : Located} {r : Body} (at : from (getD p b []) o ≡ x ∷ r) where
     -- What is left from a command: its own, the body that it names as often as it runs it, and what is left from the next offset.
     pub left-at : leftOf own p b o ≡ own (x .command) + times (x .command) * tally own p (named (x .command)) + leftOf own p b (o + stride x)
     unfolding leftOf sumOver
     left-at = rw (at, found ok b h o at .next)
 
-    -- The same of a command that names no body, and of END.
-    pub left-plain : names (x .command) ≡ false → leftOf own p b o ≡ own (x .command) + leftOf own p b (o + stride x)
-    left-plain e = let f = left-at in let g = named-none (x .command) (tally own p (named (x .command))) e in omega arith
-
+    -- The same of END.
     pub left-end : isEnd (x .command) ≡ true → leftOf own p b o ≡ own (x .command)
     unfolding leftOf sumOver
     left-end e = let g = named-none (x .command) (tally own p (named (x .command))) (closing (x .command) e .nameless) in rw (at, end-last ok b h o at e) (omega arith)

@@ -1,7 +1,6 @@
 -- What holds of a reached state: the invariant, and what is made and pending within the counts of the table. From it: a phase is at most the steps taken, and where
 -- every unended activity waits, none is unended.
 use Prim.Native.Nat.{ℕ, _+_, _≤_, _<_}
-use native.Mathlib.Omega.{arith}
 use mathlib.Core.Bool.{true, false}
 use mathlib.Core.Path.{_≡_}
 use mathlib.Core.Logic.{_⊎_, inl, inr}
@@ -16,7 +15,7 @@ use Rattle.rules.proofs.Tests.{decide, true-false}
 use Rattle.rules.proofs.Shapes.{meets, isNext}
 use Rattle.rules.proofs.Applied.{Bounded}
 use Rattle.rules.proofs.Holders.{EachHold}
-use Rattle.rules.proofs.VirtualTime.{Fine, phase-slow}
+use Rattle.rules.proofs.VirtualTime.{Fine}
 use Rattle.rules.proofs.Tree.{Open}
 use Rattle.rules.proofs.Containment.{Nested}
 use Rattle.rules.proofs.Waiting.{Sane, no-standstill}
@@ -86,11 +85,6 @@ module _ (p : Program) (s : State) (vt base : ℕ → ℕ) (v : Inv p s vt base)
         time = λ i k l h. v .fine i l .timed k .time h;
         contained = v .contained;
       }
-
--- A phase is at most the steps taken.
-pub phase-steps : (p : Program) (s : State) → Reached p s → (x k : ℕ) → x < s .activities → hold (act s x) k .phase ≤ s .steps
-unfolding EachHold
-phase-steps p s g x k l = omega (arith, phase-slow (g .inv .fine x l .timed k), g .inv .slow x l)
 
 -- Where every unended activity of a reached state waits, none is unended.
 pub never-still : (p : Program) (s : State) → Reached p s → ((i : ℕ) → i < s .activities → ended s i ≡ false → waits p s i ≡ true)

@@ -7,8 +7,9 @@ use lib.Dec.{ltb, leb, eqb}
 use borrow.Author.Tests.{ltb-true, leb-true, lt-ltb, ne-eqb}
 use Rattle.program.specs.declared.command.Command.{Command}
 use Rattle.program.specs.declared.command.Command.the-variants.{End, Next, Clock, Resume, Drop, Async, Finish, Repeat, Acc, Offer, Read, Reset, Put, Fetch, Store, Add, Atom}
-use Rattle.program.specs.Command.{opcode, rows, rowAt, rowOf, names, named, times}
+use Rattle.program.specs.Command.{opcode, named, times}
 use Rattle.program.specs.Bodies.{Program}
+use Rattle.program.proofs.ShapeRows.{named-is, times-is}
 use Rattle.rules.specs.declared.state.Frame.{Frame}
 use Rattle.rules.specs.declared.state.Hold.{Hold}
 use Rattle.rules.specs.declared.state.Activity.{Activity}
@@ -49,15 +50,15 @@ pub run-by-opcode : (made : ℕ) (c : Command) (f : Frame)
     → runBy made c f
     ≡ cond (eqb (opcode c) 6) (eqb (f .body) (named c) && (eqb (f .runs) 0 && leb (f .first) made))
     (cond (eqb (opcode c) 7) (eqb (f .body) (named c) && (leb 1 (f .runs) && (leb (f .runs) (times c) && eqb (f .first) 0))) false)
-unfolding runBy named times names rowOf rowAt rows
+unfolding runBy
 run-by-opcode made End f = refl
 run-by-opcode made Next f = refl
 run-by-opcode made (Clock c) f = refl
 run-by-opcode made (Resume c) f = refl
 run-by-opcode made (Drop c) f = refl
 run-by-opcode made (Async b m) f = refl
-run-by-opcode made (Finish b) f = refl
-run-by-opcode made (Repeat n b) f = refl
+run-by-opcode made (Finish b) f = rw (named-is (Finish b))
+run-by-opcode made (Repeat n b) f = rw (named-is (Repeat n b), times-is (Repeat n b))
 run-by-opcode made (Acc a o) f = refl
 run-by-opcode made (Offer a) f = refl
 run-by-opcode made (Read a) f = refl
