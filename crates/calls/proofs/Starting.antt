@@ -7,17 +7,16 @@ use lib.ListN.{length}
 use lib.Dec.{eqb}
 use borrow.Author.Tests.{eq-eqb, ne-eqb}
 use Rattle.program.specs.Table.{workLimit, numberOf}
-use Rattle.rules.specs.declared.state.State.{State}
 use Rattle.rules.specs.State.{zeroState}
 use Rattle.rules.specs.Steps.{startState, startWith, start}
 use Rattle.encoding.specs.Encode.{encodeState}
 use Rattle.calls.specs.Calls.{tableFirst, lengthNumber, fitsState, startNumber, startBytes}
 
 -- The table is turned down: the state of zeros, where there is room.
-pub start-refused : (t b : List ℕ) {n : ℕ} {s : State} {c : List ℕ} → n ≡ numberOf workLimit t → (n ≡ 0 → ⊥) → s ≡ zeroState → c ≡ cond (eqb (length b) 13776) (encodeState s) b
+pub start-refused : (t b : List ℕ) {n : ℕ} {c : List ℕ} → n ≡ numberOf workLimit t → (n ≡ 0 → ⊥) → c ≡ cond (eqb (length b) 13776) (encodeState zeroState) b
     → (n ≡ startNumber t b) × (c ≡ startBytes t b)
 unfolding startNumber startBytes fitsState tableFirst start startWith
-start-refused t b {n} e h q f = let x = ne-eqb n 0 h in (rw (sym e, x) (go (eqb (length b) 13776)), rw (f, sym e, x, q))
+start-refused t b {n} e h f = let x = ne-eqb n 0 h in (rw (sym e, x) (go (eqb (length b) 13776)), rw (f, sym e, x))
   where
     go : (x : Bool) → n ≡ cond x n n
     go true = refl
@@ -30,6 +29,6 @@ module _ (t b : List ℕ) (z : numberOf workLimit t ≡ 0) where
   start-length h = let q = ne-eqb (length b) 13776 h in (rw (q, z), rw q)
 
   -- The start state.
-  pub start-done : {s : State} {c : List ℕ} → length b ≡ 13776 → s ≡ startState → c ≡ cond (eqb (length b) 13776) (encodeState s) b → (0 ≡ startNumber t b) × (c ≡ startBytes t b)
+  pub start-done : {c : List ℕ} → length b ≡ 13776 → c ≡ cond (eqb (length b) 13776) (encodeState startState) b → (0 ≡ startNumber t b) × (c ≡ startBytes t b)
   unfolding startNumber startBytes fitsState start startWith
-  start-done h e f = let q = eq-eqb (length b) 13776 h in (rw (q, z), f ∙ rw (q, z, e))
+  start-done h f = let q = eq-eqb (length b) 13776 h in (rw (q, z), f ∙ rw (q, z))

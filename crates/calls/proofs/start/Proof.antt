@@ -1,5 +1,5 @@
 -- The table's number decides, then the length.
-use mathlib.Core.Path.{refl, sym, _∙_}
+use mathlib.Core.Path.{sym, _∙_}
 use Rattle.calls.proofs.Checking.{number-read}
 use Rattle.calls.proofs.Starting.{start-refused, start-length, start-done}
 use borrow.Author.Needs.{needs}
@@ -16,7 +16,7 @@ returns c =
     let z = p .before .before in
     let r = z .before in
     let a = begun r .args in
-    start-refused (a .table .now) (a .state .now) (number-read (a .table .now) (r .read-table .ensures)) (z .if1 .taken) refl (p .put-none .ensures)
+    start-refused (a .table .now) (a .state .now) (number-read (a .table .now) (r .read-table .ensures)) (z .if1 .taken) (p .put-none .ensures)
 
 returns-2 : tie.Need-returns-2
 returns-2 c =
@@ -31,7 +31,7 @@ returns-3 c =
     let e = s .before in
     let r = e .before in
     let a = begun r .args in
-    start-done (a .table .now) (a .state .now) (sym (number-read (a .table .now) (r .read-table .ensures)) ∙ e .if1 .left) (s .if2 .left) refl (p .put-start .ensures)
+    start-done (a .table .now) (a .state .now) (sym (number-read (a .table .now) (r .read-table .ensures)) ∙ e .if1 .left) (s .if2 .left) (p .put-start .ensures)
 
 pub start-spec : {M : Type 1} → statement M
 start-spec =
