@@ -1,5 +1,5 @@
--- What holds of a reached state: the invariant, and what is made and pending within the counts of the table. From it: a phase is at most the steps taken, and where
--- every unended activity waits, none is unended.
+-- What holds of a reached state: the invariant, and what is made and pending within the counts of the table. From it: where every
+-- unended activity waits, none is unended.
 use Prim.Native.Nat.{ℕ, _+_, _≤_, _<_}
 use mathlib.Core.Bool.{true, false}
 use mathlib.Core.Path.{_≡_}
