@@ -1,4 +1,4 @@
-//! The machine's calls over lent bytes, and its run by single steps by value.
+//! The machine's calls over lent bytes, its run by single steps by value, and its reader of tables.
 
 /// A command of a list.
 pub type Entry = [u8; 5];
@@ -14,6 +14,7 @@ extern "C" {
     fn stepmachine_build(entries: *const Entry, count: usize, table: *mut u8, n: usize, length: *mut usize) -> u8;
     fn stepmachine_commands(table: *const u8, n: usize, entries: *mut Entry, count: usize, found: *mut usize) -> u8;
     fn stepmachine_single(table: *const u8, n: usize, order: *const u8, k: usize, answers: *mut u8, room: usize) -> u8;
+    fn stepmachine_read(table: *const u8, n: usize, counts: *mut u64, m: usize) -> u8;
 }
 
 /// A step of the state in the buffer.
@@ -36,6 +37,11 @@ pub fn single(table: &[u8], order: &[u8], answers: &mut [u8]) -> u8 {
     unsafe {
         stepmachine_single(table.as_ptr(), table.len(), order.as_ptr(), order.len(), answers.as_mut_ptr(), answers.len())
     }
+}
+
+/// The number of a table; its work, activities, clocks and accumulators go into the counts.
+pub fn read(table: &[u8], counts: &mut [u64]) -> u8 {
+    unsafe { stepmachine_read(table.as_ptr(), table.len(), counts.as_mut_ptr(), counts.len()) }
 }
 
 /// The table of a list, and its length.

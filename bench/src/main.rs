@@ -1,10 +1,12 @@
-//! Prints nanoseconds a step, and a call on a list, of the machine beside the second interpreter, and draws how steps grow.
+//! Prints nanoseconds a step, and a call on a list or a table, of the machine beside the second interpreter, and draws how steps grow.
 //! Usage: bench FILE.svg
 mod jobs;
+mod lent;
 mod lists;
 mod machine;
 mod measure;
 mod plot;
+mod tables;
 
 use jobs::Job;
 use measure::{pace, Pace, CALLS};
@@ -46,10 +48,8 @@ fn grown(sizes: impl Iterator<Item = (usize, usize)>) -> Vec<Vec<Pace>> {
         .collect()
 }
 
-fn main() {
-    let file = std::env::args().nth(1).expect("the file to draw to");
-    println!("nanoseconds a step, medians; machine and reference in turn");
-    grown([1, 8, 64].into_iter().flat_map(|n| [(n, SHORT), (n, LONG)]));
+/// The builder and the lister, printed.
+fn calls() {
     println!("\nnanoseconds a call on a list or a table of so many bytes");
     println!("{:>6}  {:<16} {:>10} {:>10} {:>7}", "bytes", "call", "machine", "reference", "ratio");
     for bytes in [SHORT, LONG] {
@@ -57,6 +57,28 @@ fn main() {
             println!("{bytes:>6}  {name:<16} {:>10.0} {:>10.0} {:>7.2}", pace.machine, pace.reference, pace.ratio());
         }
     }
+}
+
+/// The reader of tables at each size, printed.
+fn readings() {
+    println!("\nnanoseconds a reading of a table of so many bytes, and a byte of it");
+    println!("{:>6} {:>10} {:>8} {:>10} {:>8} {:>7}", "bytes", "machine", "a byte", "reference", "a byte", "ratio");
+    for bytes in BYTES {
+        let pace = tables::pace(bytes);
+        let (machine, reference) = (pace.machine / bytes as f64, pace.reference / bytes as f64);
+        println!(
+            "{bytes:>6} {:>10.0} {machine:>8.2} {:>10.0} {reference:>8.2} {:>7.2}",
+            pace.machine, pace.reference, pace.ratio()
+        );
+    }
+}
+
+fn main() {
+    let file = std::env::args().nth(1).expect("the file to draw to");
+    println!("nanoseconds a step, medians; machine and reference in turn");
+    grown([1, 8, 64].into_iter().flat_map(|n| [(n, SHORT), (n, LONG)]));
+    calls();
+    readings();
     println!("\nas the activities grow");
     let activities = grown(ACTIVITIES.into_iter().map(|n| (n, SHORT)));
     println!("\nas the table grows");

@@ -5,7 +5,7 @@ use reference::{bytes, calls};
 use std::hint::black_box;
 
 /// How often each is measured; the median counts.
-pub const REPEATS: usize = 15;
+const REPEATS: usize = 15;
 
 /// What is measured.
 #[derive(Clone, Copy, PartialEq)]
@@ -123,20 +123,24 @@ fn by_reference(call: Call, job: &Job) -> (f64, Made) {
     }
 }
 
-pub fn median(mut numbers: Vec<f64>) -> f64 {
+fn median(mut numbers: Vec<f64>) -> f64 {
     numbers.sort_by(f64::total_cmp);
     numbers[numbers.len() / 2]
 }
 
-/// Both, in turn. They must give the same answers and the same state.
-pub fn pace(call: Call, job: &Job) -> Pace {
-    let (mut machine, mut reference) = (Vec::new(), Vec::new());
+/// Both, in turn. They must make the same.
+pub fn in_turn<T: PartialEq>(machine: impl Fn() -> (f64, T), reference: impl Fn() -> (f64, T)) -> Pace {
+    let (mut ours, mut theirs) = (Vec::new(), Vec::new());
     for _ in 0..REPEATS {
-        let (ns, made) = by_machine(call, job);
-        let (other, expected) = by_reference(call, job);
+        let ((ns, made), (other, expected)) = (machine(), reference());
         assert!(made == expected, "both make the same");
-        machine.push(ns);
-        reference.push(other);
+        ours.push(ns);
+        theirs.push(other);
     }
-    Pace { machine: median(machine), reference: median(reference) }
+    Pace { machine: median(ours), reference: median(theirs) }
+}
+
+/// Both, by a call on a job: the same answers and the same state.
+pub fn pace(call: Call, job: &Job) -> Pace {
+    in_turn(|| by_machine(call, job), || by_reference(call, job))
 }

@@ -1,31 +1,43 @@
--- Walking through the commands of a table.
+-- Walking through the commands of an accepted table.
 use Prim.Native.Nat.{ℕ, zero, suc, _+_, _≤_, _<_}
 use native.Mathlib.Omega.{arith}
 use native.Mathlib.Numerals.{add-one}
 use mathlib.Core.List.{List, [], _∷_}
-use mathlib.Core.Path.{_≡_, refl, sym, ap, _∙_}
+use mathlib.Core.Path.{_≡_, refl, sym, _∙_}
 use lib.ListN.{length, getD, drop, length-drop}
-use lib.Seq.{drop-drop}
-use Rattle.program.specs.Reading.{refusalOf, read, readings, wholes, commandsOf}
+use lib.Seq.{drop-cons, drop-drop}
+use Rattle.program.specs.Command.{widthAt, width}
+use Rattle.program.specs.Reading.{read, bare, commandsOf}
+use Rattle.program.specs.Scan.{scan}
 use Rattle.program.specs.declared.command.Command.{Command}
 use Rattle.program.specs.declared.command.Command.the-variants.{End}
-use Rattle.program.specs.declared.reading.Reading.{Reading}
-use Rattle.program.specs.declared.reading.Reading.the-variants.{Whole, Unknown, Cut, Outside}
+use Rattle.program.specs.declared.reading.Reading.the-variants.{Whole}
 use Rattle.program.proofs.Basic.{apart}
-use Rattle.program.proofs.ReadLaws.{Stopped, ran-out, stopped, readings-whole, readings-stop}
-use Rattle.program.proofs.ShapeReading.{known}
+use Rattle.program.proofs.RangeLaws.{whole-bare}
+use Rattle.program.proofs.ShapeReading.{read-as, known}
+use Rattle.program.proofs.ShapeListed.{Listed, over, next, passes}
 
--- The commands from the i-th on are read from the byte `at` on.
+-- The commands from the i-th on stand in the bytes from `at` on.
 pub record Walking (t : List ℕ) (at i : ℕ) : Type 0 where
+  body : ℕ
+  left : ℕ
+  listed : Listed (getD t 0 0) body left (drop at t) (drop i (commandsOf t))
   pub inside : at ≤ length t
   pub some : i < at
   pub within : i ≤ length (commandsOf t)
-  pub left : drop i (commandsOf t) ≡ wholes (readings (drop at t))
 
 -- Byte 0 is passed.
-pub walking-none : (t : List ℕ) → 1 ≤ length t → Walking t 1 0
-unfolding commandsOf
-walking-none t h = record { inside = h; some = omega arith; within = omega arith; left = refl }
+pub walking-none : (t : List ℕ) → scan t ≡ 0 → Walking t 1 0
+walking-none t ok =
+    let p = passes t ok in
+    record {
+      body = 0;
+      left = 0;
+      listed = p .listed;
+      inside = omega (arith, p .long);
+      some = omega arith;
+      within = omega arith;
+    }
 
 -- Of what is left the first, and the rest.
 record First {A : Type 0} (l : List A) (i : ℕ) (d x : A) (rest : List A) : Type 0 where
@@ -41,44 +53,62 @@ first (y ∷ l) (suc i) d x rest e =
     let f = first l i d x rest e in
     record { lower = omega (arith, f .lower); here = f .here; later = f .later }
 
-none-left : {A : Type 0} (l : List A) (i : ℕ) → drop i l ≡ [] → length l ≤ i
-none-left l i e = let k = length-drop i l in let z = ap length e in omega arith
+-- In no bytes there is no command,
+none-listed : {n i left : ℕ} {s : List ℕ} {cs : List Command} → Listed n i left s cs → length s ≡ 0 → length cs ≡ 0
+none-listed (over e) h = refl
+none-listed {s = s} (next inside own fits r) h = absurd (let k = known s own in let y : ⊥ = omega (arith, k .some, k .inside) in y)
 
-stopped-none : {r : Reading} {s : List ℕ} {rs : List Reading} → (refusalOf r ≡ 0 → ⊥) → Stopped r s rs → wholes rs ≡ []
-unfolding wholes
-stopped-none bad (ran-out e) = refl
-stopped-none {r = Whole c size} bad stopped = absurd (bad refl)
-stopped-none {r = Unknown} bad stopped = refl
-stopped-none {r = Cut} bad stopped = refl
-stopped-none {r = Outside} bad stopped = refl
+-- and in some there is a first.
+record Ahead (n : ℕ) (s : List ℕ) (cs : List Command) : Type 0 where
+  command : Command
+  rest : List Command
+  body : ℕ
+  left : ℕ
+  same : cs ≡ command ∷ rest
+  own : read s ≡ Whole command (width command)
+  later : Listed n body left (drop (width command) s) rest
+
+first-listed : {n i left : ℕ} {s : List ℕ} {cs : List Command} → Listed n i left s cs → 0 < length s → Ahead n s cs
+first-listed (over e) h = absurd (let y : ⊥ = omega arith in y)
+first-listed (next {c = c} {cs = cs} inside own fits r) h = record { command = c; rest = cs; body = _; left = _; same = refl; own = own; later = r }
 
 module _ {t : List ℕ} {at i : ℕ} (w : Walking t at i) where
   -- No command follows.
-  pub walking-done : (r : Reading) → r ≡ read (drop at t) → (refusalOf r ≡ 0 → ⊥) → length (commandsOf t) ≤ i
-  walking-done r e bad = none-left (commandsOf t) i (w .left ∙ stopped-none bad (readings-stop (drop at t) r e bad))
+  pub walking-done : length t ≤ at → length (commandsOf t) ≤ i
+  walking-done h =
+      let e = rw length-drop at (none-listed (w .listed) (rw length-drop (omega arith))) in
+      omega arith
 
-  module _ (c : Command) (size : ℕ) (e : Whole c size ≡ read (drop at t)) where
-    ahead : First (commandsOf t) i End c (wholes (readings (drop (at + size) t)))
-    unfolding wholes
-    ahead = first (commandsOf t) i End c _ (w .left ∙ rw (readings-whole (drop at t) c size e, drop-drop))
+  -- A command follows.
+  module _ (h : at < length t) where
+    ahead : Ahead (getD t 0 0) (drop at t) (drop i (commandsOf t))
+    ahead = first-listed (w .listed) (rw length-drop (omega arith))
 
-    pub walking-fits : (0 < size) × (at + size ≤ length t)
-    walking-fits =
-        let k = known (drop at t) (sym e) in
-        let h = simp length-drop at (k .inside) in
-        (k .some, omega (arith, w .inside))
+    its : First (commandsOf t) i End (ahead .command) (ahead .rest)
+    its = first (commandsOf t) i End (ahead .command) (ahead .rest) (ahead .same)
 
     pub walking-below : i < length (commandsOf t)
-    walking-below = ahead .lower
+    walking-below = its .lower
 
-    pub walking-here : getD (commandsOf t) i End ≡ c
-    walking-here = ahead .here
+    pub walking-here : bare (drop at t) ≡ getD (commandsOf t) i End
+    walking-here = whole-bare (drop at t) (ahead .own) ∙ sym (its .here)
 
-    -- A command follows.
-    pub walking-on : Walking t (at + size) (i + 1)
-    walking-on = record {
-      inside = walking-fits .1;
-      some = omega (arith, w .some, walking-fits .0);
-      within = omega (arith, ahead .lower);
-      left = rw add-one (ahead .later);
-    }
+    module _ {size : ℕ} (e : size ≡ widthAt (getD t at 0)) where
+      wide : size ≡ width (ahead .command)
+      wide = e ∙ read-as (getD t at 0) (drop (suc at) t) (rw (drop-cons t at 0 h) at (ahead .own)) .wide
+
+      pub walking-fits : (0 < size) × (at + size ≤ length t)
+      walking-fits =
+          let k = known (drop at t) (ahead .own) in
+          let l = rw length-drop at (k .inside) in
+          (omega (arith, wide, k .some), omega (arith, wide, w .inside))
+
+      pub walking-on : Walking t (at + size) (i + 1)
+      walking-on = record {
+        body = ahead .body;
+        left = ahead .left;
+        listed = rw (wide, add-one, its .later, ← drop-drop (width (ahead .command)) at t) (ahead .later);
+        inside = walking-fits .1;
+        some = omega (arith, w .some, walking-fits .0);
+        within = omega (arith, its .lower);
+      }

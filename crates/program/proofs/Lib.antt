@@ -16,7 +16,6 @@ pub mod ReadLaws
 pub mod ScanLaws
 pub mod LayoutLaws
 pub mod TotalLaws
-pub mod CountLaws
 pub mod WalkLaws
 pub mod TableLaws
 pub mod PlaceLaws

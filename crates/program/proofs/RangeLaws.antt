@@ -1,105 +1,103 @@
--- The ranges of operands by number are the definitions' ranges, kind by kind; and what a reading is, test by test.
+-- The ranges of operands as the code tries them; and what a reading is, test by test.
 use mathlib.Core.Path.{_≡_, refl, sym, _∙_}
-use mathlib.Core.Bool.{Bool, true, false, cond, _&&_}
-use mathlib.Core.List.{List, [], _∷_, map}
-use Prim.Native.Nat.{ℕ, zero, suc, _+_, _-_, _<_, _≤_}
+use mathlib.Core.Bool.{Bool, true, false, cond, _&&_, _||_}
+use mathlib.Core.List.{List, [], _∷_}
+use Prim.Native.Nat.{ℕ, suc, _+_, _-_, _<_, _≤_}
 use native.Mathlib.Omega.{arith}
-use lib.Dec.{eqb, ltb, leb, leb·zero, leb·suc-suc}
+use lib.Dec.{eqb, ltb, leb}
 use lib.ListN.{length, getD, take, drop, length-drop, drop-of-length-le}
 use lib.Seq.{take-all, drop-cons}
-use borrow.Author.Tests.{eqb-true, le-leb, lt-leb, lt-ltb, le-ltb}
-use Rattle.program.specs.Command.{Operand, clockName, accumulatorName, operatorCode, mask, bodyNumber, runCount, commandCount, cellNumber, valueByte, inside, rows, rowAt, commandOf}
-use Rattle.program.specs.Inner.Coding.{kindCode, ranges, withinCode, coded}
+use borrow.Author.Tests.{ne-eqb, le-leb, lt-leb, lt-ltb, le-ltb}
+use Rattle.program.specs.Command.{Operand, clockName, accumulatorName, operatorCode, mask, bodyNumber, runCount, commandCount, cellNumber, valueByte, inside, rows, rowAt, widthAt, commandOf}
+use Rattle.program.specs.Inner.Coding.{Fitting}
 use Rattle.program.specs.Reading.{allInside, read, bare}
 use Rattle.program.specs.declared.command.Command.{Command}
 use Rattle.program.specs.declared.command.Command.the-variants.{End}
 use Rattle.program.specs.declared.reading.Reading.{Reading}
 use Rattle.program.specs.declared.reading.Reading.the-variants.{Whole, Unknown, Cut, Outside}
-use Rattle.program.proofs.Basic.{Bytes, and-true}
-use Rattle.program.proofs.RowLaws.{plain, plain-tail}
+use Rattle.program.proofs.Basic.{and-true, true-false}
+use Rattle.program.proofs.ShapeReading.{each-op}
 
--- Below a bound is from 0 to one less.
-below : (n x : ℕ) → ltb x (suc n) ≡ leb 0 x && leb x n
-below n x = leb·suc-suc x n ∙ rw (leb·zero x)
+-- RANGES
 
-any-byte : (x : ℕ) → x < 256 → true ≡ leb 0 x && leb x 255
-any-byte x h = rw (leb·zero x, le-leb x 255 (omega arith))
+module _ (op : ℕ) {x y : ℕ} {r : Bool} where
+  -- One operand that has a range,
+  pub one-fits : (kind : Operand) → rowAt op .operands ≡ kind ∷ [] → r ≡ inside kind x → Fitting op x y r
+  one-fits kind row e [] first second room = absurd (let l = rw row at room in let y : ⊥ = omega arith in y)
+  one-fits kind row e (v ∷ vs) first second room = e ∙ rw (row, ← first) (last (inside kind v))
+    where
+      last : (b : Bool) → b ≡ b && true
+      last true = refl
+      last false = refl
 
-inside-code : (o : Operand) (x : ℕ) → x < 256 → inside o x ≡ withinCode (kindCode o) x
-unfolding withinCode ranges
-inside-code clockName x h = below 7 x
-inside-code accumulatorName x h = below 7 x
-inside-code operatorCode x h = below 2 x
-inside-code mask x h = any-byte x h
-inside-code bodyNumber x h = any-byte x h
-inside-code runCount x h = any-byte x h
-inside-code commandCount x h = refl
-inside-code cellNumber x h = below 15 x
-inside-code valueByte x h = any-byte x h
+  -- and two.
+  pub two-fit : (kind other : Operand) → rowAt op .operands ≡ kind ∷ (other ∷ []) → r ≡ inside kind x && inside other y → Fitting op x y r
+  two-fit kind other row e [] first second room = absurd (let l = rw row at room in let y : ⊥ = omega arith in y)
+  two-fit kind other row e (v ∷ []) first second room = absurd (let l = rw row at room in let y : ⊥ = omega arith in y)
+  two-fit kind other row e (v ∷ (w ∷ vs)) first second room = e ∙ rw (row, ← first, ← second) (last (inside kind v) (inside other w))
+    where
+      last : (a b : Bool) → a && b ≡ a && (b && true)
+      last true true = refl
+      last true false = refl
+      last false b = refl
 
-any-within : (x : ℕ) → x < 256 → withinCode 0 x ≡ true
-unfolding withinCode ranges
-any-within x h = sym (any-byte x h)
+-- Operands of which any byte will do.
+abbrev free : Operand → Bool
+free clockName = false
+free accumulatorName = false
+free operatorCode = false
+free mask = true
+free bodyNumber = true
+free runCount = true
+free commandCount = false
+free cellNumber = false
+free valueByte = true
 
-inside-plain : (os : List Operand) (vs : List ℕ) → Bytes vs → plain os ≡ true → allInside os vs ≡ true
-inside-plain [] vs h p = refl
-inside-plain (o ∷ os) [] h p = refl
-inside-plain (o ∷ os) (v ∷ vs) h p =
-    let q = and-true (eqb (kindCode o) 0) (plain os) p in
-    let k : kindCode o ≡ 0 = eqb-true (kindCode o) 0 (q .0) in
-    rw (inside-code o v (h 0), k, any-within v (h 0)) (inside-plain os vs (λ i. h (suc i)) (q .1))
+abbrev allFree : List Operand → Bool
+allFree [] = true
+allFree (kind ∷ kinds) = free kind && allFree kinds
 
--- The number of the kind of operand i.
-abbrev code : List Operand → ℕ → ℕ
-code os i = getD (map kindCode os) i 0
+inside-free : (kind : Operand) (x : ℕ) → free kind ≡ true → inside kind x ≡ true
+inside-free clockName x e = absurd (true-false false e refl)
+inside-free accumulatorName x e = absurd (true-false false e refl)
+inside-free operatorCode x e = absurd (true-false false e refl)
+inside-free mask x e = refl
+inside-free bodyNumber x e = refl
+inside-free runCount x e = refl
+inside-free commandCount x e = absurd (true-false false e refl)
+inside-free cellNumber x e = absurd (true-false false e refl)
+inside-free valueByte x e = refl
 
-inside-three : (os : List Operand) (vs : List ℕ) → Bytes vs → length os ≤ length vs → plain (drop 3 os) ≡ true
-    → allInside os vs ≡ withinCode (code os 0) (getD vs 0 0) && (withinCode (code os 1) (getD vs 1 0) && withinCode (code os 2) (getD vs 2 0))
-inside-three [] vs h l p = rw (any-within _ (h 0), any-within _ (h 1), any-within _ (h 2))
-inside-three (a ∷ []) [] h l p = absurd (let y : ⊥ = omega arith in y)
-inside-three (a ∷ []) (v ∷ vs) h l p = rw (inside-code a v (h 0), any-within _ (h 1), any-within _ (h 2))
-inside-three (a ∷ (b ∷ [])) [] h l p = absurd (let y : ⊥ = omega arith in y)
-inside-three (a ∷ (b ∷ [])) (v ∷ []) h l p = absurd (let y : ⊥ = omega arith in y)
-inside-three (a ∷ (b ∷ [])) (v ∷ (w ∷ vs)) h l p = rw (inside-code a v (h 0), inside-code b w (h 1), any-within _ (h 2))
-inside-three (a ∷ (b ∷ (c ∷ os))) [] h l p = absurd (let y : ⊥ = omega arith in y)
-inside-three (a ∷ (b ∷ (c ∷ os))) (v ∷ []) h l p = absurd (let y : ⊥ = omega arith in y)
-inside-three (a ∷ (b ∷ (c ∷ os))) (v ∷ (w ∷ [])) h l p = absurd (let y : ⊥ = omega arith in y)
-inside-three (a ∷ (b ∷ (c ∷ os))) (v ∷ (w ∷ (u ∷ vs))) h l p =
-    rw (inside-code a v (h 0), inside-code b w (h 1), inside-code c u (h 2), inside-plain os vs (λ i. h (suc (suc (suc i)))) p)
-    (and-last (withinCode (kindCode a) v) (withinCode (kindCode b) w) (withinCode (kindCode c) u))
-  where
-    and-last : (x y z : Bool) → x && (y && (z && true)) ≡ x && (y && z)
-    and-last true true true = refl
-    and-last true true false = refl
-    and-last true false z = refl
-    and-last false y z = refl
+all-free : (kinds : List Operand) → allFree kinds ≡ true → (s : List ℕ) → true ≡ allInside kinds s
+all-free [] e s = refl
+all-free (kind ∷ kinds) e [] = refl
+all-free (kind ∷ kinds) e (x ∷ s) =
+    let q = and-true (free kind) (allFree kinds) e in
+    rw (inside-free kind x (q .0)) (all-free kinds (q .1) s)
 
--- The operands of a command byte, by the three kinds of the code's row.
-all-inside : (op : ℕ) (vs : List ℕ) → ((i : ℕ) → getD vs i 0 < 256) → length (rowAt op .operands) ≤ length vs
-    → allInside (rowAt op .operands) vs
-    ≡ withinCode (getD (coded (rowAt op)) 1 0) (getD vs 0 0) && (withinCode (getD (coded (rowAt op)) 2 0) (getD vs 1 0) && withinCode (getD (coded (rowAt op)) 3 0) (getD vs 2 0))
-unfolding coded
-all-inside op vs h l = inside-three (rowAt op .operands) vs h l (plain-tail op)
+-- The command bytes with a range, the last first: what the last arm knows of its byte, and that it is another.
+abbrev ranged : List ℕ
+ranged = 16 ∷ 15 ∷ 14 ∷ 13 ∷ 11 ∷ 10 ∷ 9 ∷ 8 ∷ 4 ∷ 3 ∷ 2 ∷ []
 
-code-few : (os : List Operand) (i : ℕ) → code os i < 9
-code-few [] i = omega arith
-code-few (o ∷ os) zero = few o
-  where
-    few : (o : Operand) → kindCode o < 9
-    few clockName = omega arith
-    few accumulatorName = omega arith
-    few operatorCode = omega arith
-    few mask = omega arith
-    few bodyNumber = omega arith
-    few runCount = omega arith
-    few commandCount = omega arith
-    few cellNumber = omega arith
-    few valueByte = omega arith
-code-few (o ∷ os) (suc i) = code-few os i
+abbrev Missed : ℕ → List ℕ → Type 0
+Missed x [] = Unit {0}
+Missed x (k ∷ ks) = Missed x ks × (x ≡ k → ⊥)
 
-pub kinds-few : (op : ℕ) → (getD (coded (rowAt op)) 1 0 < 9) × (getD (coded (rowAt op)) 2 0 < 9) × (getD (coded (rowAt op)) 3 0 < 9)
-unfolding coded
-kinds-few op = (code-few (rowAt op .operands) 0, code-few (rowAt op .operands) 1, code-few (rowAt op .operands) 2)
+abbrev isIn : ℕ → List ℕ → Bool
+isIn x [] = false
+isIn x (k ∷ ks) = eqb x k || isIn x ks
+
+missed : (x : ℕ) (ks : List ℕ) → Missed x ks → isIn x ks ≡ false
+missed x [] h = refl
+missed x (k ∷ ks) h = rw (ne-eqb x k (h .1)) (missed x ks (h .0))
+
+-- Its operands may be any bytes.
+pub free-fits : (op : ℕ) {x y : ℕ} → op < 17 → Missed op ranged → Fitting op x y true
+unfolding rowAt rows
+free-fits op few h s first second room =
+    let all : (isIn op ranged || allFree (rowAt op .operands)) ≡ true =
+    each-op (λ (k : ℕ). (isIn k ranged || allFree (rowAt k .operands)) ≡ true) refl refl refl refl refl refl refl refl refl refl refl refl refl refl refl refl refl op few in
+    all-free (rowAt op .operands) (rw (missed op ranged h) at all) s
 
 -- WHAT A READING IS
 
@@ -128,9 +126,9 @@ module _ (s : List ℕ) (op : ℕ) (some : length s ≡ 0 → ⊥) (first : op �
   pub read-unknown : 17 ≤ op → Unknown ≡ read s
   read-unknown h = sym (read-tested s some ∙ rw (← first, le-leb _ _ h))
 
-  module _ (size : ℕ) (known : op < 17) (wide : size ≡ getD (coded (rowAt op)) 0 0) where
+  module _ (size : ℕ) (known : op < 17) (wide : size ≡ widthAt op) where
     long : size ≡ length (rowAt op .operands) + 1
-    unfolding coded
+    unfolding widthAt
     long = wide
 
     pub read-cut : length s < size → Cut ≡ read s
@@ -148,19 +146,6 @@ module _ (s : List ℕ) (op : ℕ) (some : length s ≡ 0 → ⊥) (first : op �
     pub read-whole : size ≤ length s → allInside (rowAt op .operands) (drop 1 s) ≡ true → {c : Command} → c ≡ commandOf op (drop 1 s) → Whole c size ≡ read s
     read-whole h good {c} is =
         rw (is, long) (sym (read-tested s some ∙ rw (← first, lt-leb _ _ known, le-ltb _ _ (read-room h), good)))
-
--- The operands of a command byte, tried in turn.
-module _ (op : ℕ) (vs : List ℕ) (bytes : (i : ℕ) → getD vs i 0 < 256) (room : length (rowAt op .operands) ≤ length vs) where
-  pub first-out : withinCode (getD (coded (rowAt op)) 1 0) (getD vs 0 0) ≡ false → false ≡ allInside (rowAt op .operands) vs
-  first-out h = sym (all-inside op vs bytes room ∙ rw h)
-
-  pub second-out : withinCode (getD (coded (rowAt op)) 1 0) (getD vs 0 0) ≡ true → withinCode (getD (coded (rowAt op)) 2 0) (getD vs 1 0) ≡ false
-      → false ≡ allInside (rowAt op .operands) vs
-  second-out h g = sym (all-inside op vs bytes room ∙ rw (h, g))
-
-  pub third-left : withinCode (getD (coded (rowAt op)) 1 0) (getD vs 0 0) ≡ true → withinCode (getD (coded (rowAt op)) 2 0) (getD vs 1 0) ≡ true
-      → withinCode (getD (coded (rowAt op)) 3 0) (getD vs 2 0) ≡ allInside (rowAt op .operands) vs
-  third-left h g = sym (all-inside op vs bytes room ∙ rw (h, g))
 
 -- A WHOLE COMMAND
 

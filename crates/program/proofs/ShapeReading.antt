@@ -5,7 +5,7 @@ use mathlib.Core.Path.{_≡_, refl, sym, ap, _∙_}
 use mathlib.Core.List.{List, [], _∷_}
 use mathlib.Core.Bool.{Bool, true, false, cond}
 use lib.ListN.{length, getD, take, drop}
-use lib.Seq.{drop-cons}
+use lib.Seq.{drop-cons, getD-drop}
 use lib.Dec.{leb, ltb}
 use borrow.Author.Tests.{leb-false, le-ltb, ltb-false}
 use Rattle.program.specs.Command.{Operand, inside, rows, rowAt, widthAt, opcode, operandsOf, commandOf, rowOf, width}
@@ -122,3 +122,12 @@ known (op ∷ s) {c} {size} h =
       inside = let l = f .long in omega arith;
       ranged = rw e (rw (f .same) at (k .1));
     }
+
+-- Its first byte is the command's.
+pub read-first : (s : List ℕ) (at : ℕ) {c : Command} {size : ℕ} → read (drop at s) ≡ Whole c size → widthAt (getD s at 0) ≡ size
+unfolding read
+read-first s at {c} {size} h = by (drop at s) (getD-drop at s 0 0 ∙ ap (λ (k : ℕ). getD s k 0) (let z : at + 0 ≡ at = omega arith in z)) h
+  where
+    by : (l : List ℕ) → getD l 0 0 ≡ getD s at 0 → read l ≡ Whole c size → widthAt (getD s at 0) ≡ size
+    by [] e g = apart (cc)
+    by (op ∷ l) e g = ap widthAt (sym e) ∙ read-as op l g .wide

@@ -2,10 +2,7 @@
 ghost use mathlib.Core.Path.{_≡_};
 ghost use mathlib.Core.List.{[], _∷_};
 ghost use Prim.Native.Nat.{_<_, _%_, _/_};
-ghost use Rattle.program.specs.Command.{widthAt, rowOf, opcode, operandsOf, padded, names, named, times, held, isEnd, usesCell, operandWhere};
-ghost use Rattle.program.specs.Inner.Coding.{isKind};
-use super::rows::column;
-use super::rows::slot;
+ghost use Rattle.program.specs.Command.{widthAt, opcode, operandsOf, padded, names, named, times, held, isEnd, usesCell};
 
 // A command with its operands as they stand in the table.
 pub enum Command {
@@ -27,13 +24,6 @@ pub enum Command {
     Add(u8),
     Atom(u8),
 }
-
-// The kinds of operands that the code asks for; the others are 1 c, 2 a, 3 o, 4 m, 8 d, and 0 for v or none.
-const BODY: usize = 5;
-
-const RUNS: usize = 6;
-
-const HELD: usize = 7;
 
 // A byte as a number of the machine's width.
 pub fn wide(x: u8) -> usize
@@ -104,55 +94,65 @@ pub fn operands(command: Command) -> [u8; 4]
     }
 }
 
-// The operand of a kind, or the number given where a command has none.
-fn chosen(command: Command, kind: usize, other: usize) -> usize
-    requires { ⌜ (4 < kind) × (kind < 8) × (other < 256) ⌝ }
-    ensures { λ r. ⌜ (r ≡ operandWhere (isKind kind) other (rowOf command .operands) (operandsOf command)) × (r < 256) ⌝ }
-{
-    let i = slot(opcode(command), kind);
-    let bytes = operands(command);
-    if i == 0 {
-        return wide(bytes[0]);
-    }
-    if i == 1 {
-        return wide(bytes[1]);
-    }
-    if i == 2 {
-        return wide(bytes[2]);
-    }
-    other
-}
-
 // The bytes of a command byte and its operands, 1 where no command has this byte.
 pub fn width_at(op: u8) -> usize
     ensures { λ r. ⌜ r ≡ widthAt op ⌝ }
 {
-    let row = wide(op);
-    if row < 17 { column(row, 0) } else { 1 }
+    match op {
+        0 => 1,
+        1 => 1,
+        2 => 2,
+        3 => 2,
+        4 => 2,
+        5 => 3,
+        6 => 2,
+        7 => 3,
+        8 => 3,
+        9 => 2,
+        10 => 2,
+        11 => 2,
+        12 => 5,
+        13 => 2,
+        14 => 2,
+        15 => 2,
+        16 => 2,
+        _ => 1,
+    }
 }
 
 // Whether a command names a body.
 pub fn names(command: Command) -> bool
     ensures { λ r. ⌜ r ≡ names command ⌝ }
 {
-    slot(opcode(command), BODY) < 3
+    match command {
+        Command::Async(_, _) => true,
+        Command::Finish(_) => true,
+        Command::Repeat(_, _) => true,
+        _ => false,
+    }
 }
 
 // The body that a command names, or 0.
 pub fn named(command: Command) -> usize
     ensures { λ r. ⌜ (r ≡ named command) × (r < 256) ⌝ }
 {
-    chosen(command, BODY, 0)
+    match command {
+        Command::Async(b, _) => wide(b),
+        Command::Finish(b) => wide(b),
+        Command::Repeat(_, b) => wide(b),
+        _ => 0,
+    }
 }
 
 // How often a command runs the body that it names.
 pub fn times(command: Command) -> usize
     ensures { λ r. ⌜ (r ≡ times command) × (r < 256) ⌝ }
 {
-    if names(command) {
-        chosen(command, RUNS, 1)
-    } else {
-        0
+    match command {
+        Command::Async(_, _) => 1,
+        Command::Finish(_) => 1,
+        Command::Repeat(n, _) => wide(n),
+        _ => 0,
     }
 }
 
@@ -160,7 +160,10 @@ pub fn times(command: Command) -> usize
 pub fn held(command: Command) -> usize
     ensures { λ r. ⌜ (r ≡ held command) × (r < 256) ⌝ }
 {
-    chosen(command, HELD, 0)
+    match command {
+        Command::Atom(k) => wide(k),
+        _ => 0,
+    }
 }
 
 // Whether a command is END.

@@ -1,30 +1,48 @@
 // The four counts of a table: work, activities, clocks and accumulators.
 ghost use mathlib.Core.Path.{_≡_};
-ghost use Prim.Native.Nat.{_+_, _<_};
-ghost use lib.ListN.{set};
+ghost use Prim.Native.Nat.{_+_, _*_, _<_};
+ghost use Rattle.program.specs.Command.{widthAt, held};
 ghost use Rattle.program.specs.Scan.{scan, layoutOf};
 ghost use Rattle.program.specs.Inner.Coding.{weight};
 ghost use Rattle.program.specs.Inner.Counting.{cap, Small, Added, Counts, Counting, Filled};
 use super::command::Command;
+use super::command::held;
 use super::command::is_end;
 use super::command::named;
 use super::command::opcode;
 use super::command::times;
-use super::reading::Reading;
-use super::reading::read;
-use super::rows::column;
-use super::scan::Layout;
-use super::scan::left_after;
+use super::command::width_at;
+use super::reading::byte_at;
+use super::reading::known;
 
-// The rows of counts of the bodies, as far as they are known: all zeros for a body that is not counted yet.
-type Notes = [[u64; 4]; 16];
+// The bytes of the commands that count more than 1 work.
+const NEXT: usize = 1;
+
+const CLOCK: usize = 2;
+
+const ASYNC: usize = 5;
+
+const ACC: usize = 8;
 
 // Entry k of what a command counts by itself: work 0, activities 1, clocks 2, accumulators 3.
 fn own(command: Command, k: usize) -> usize
     requires { ⌜ k < 4 ⌝ }
     ensures { λ r. ⌜ (r ≡ weight k command) × (r < 256) ⌝ }
 {
-    column(opcode(command), 4 + k)
+    let op = opcode(command);
+    match k {
+        0 => if op == NEXT { 2 } else { 1 },
+        1 => if op == ASYNC { 1 } else { 0 },
+        2 => if op == CLOCK { 1 } else { 0 },
+        _ => if op == ACC { 1 } else { 0 },
+    }
+}
+
+// The bytes from a command, whose byte is op, to the next of its body: the commands of an ATOM have two bytes each.
+fn stride(op: u8, command: Command) -> usize
+    ensures { λ r. ⌜ (r ≡ widthAt op + 2 * held command) × (r < 1024) ⌝ }
+{
+    width_at(op) + 2 * held(command)
 }
 
 // A count, saturated one above the greatest limit.
@@ -48,63 +66,43 @@ fn added(sums: [u64; 4], command: Command, runs: u64, counts: [u64; 4]) -> [u64;
     out
 }
 
-// The notes with the row of a body.
-fn noted(notes: Notes, body: usize, sums: [u64; 4]) -> Notes
-    requires { ⌜ body < 16 ⌝ }
-    ensures { λ r. ⌜ r ≡ set notes body sums ⌝ }
-{
-    let mut out = notes;
-    out[body] = sums;
-    out
-}
-
 // Fills the row of a body in the notes. It goes down into the bodies that its commands name, which have greater numbers, and counts none twice.
-fn count(table: &[u8], code: &[u8], layout: Layout, body: usize, memo: Notes) -> Notes
-    requires { ⌜ Counting (now table) (now code) layout body memo ⌝ }
-    ensures { λ r. ⌜ Filled (now (table .entry)) body r ⌝ }
+fn count(table: &[u8], code: &[u8], starts: &[usize], body: usize, notes: &mut [[u64; 4]])
+    requires { ⌜ Counting (now table) (now code) (now starts) body (now notes) ⌝ }
+    ensures { λ _. ⌜ Filled (now (table .entry)) body (now (notes .exit)) ⌝ }
 {
-    let row = memo[body];
-    if 0 < row[0] {
-        return memo;
-    }
-    let mut notes = memo;
     let mut sums = [0u64; 4];
     let mut at: usize = 0;
-    let mut left: usize = 0;
     let mut going = true;
     while going {
-        let found = read(&code[at..]);
-        let Reading::Whole { command, size } = found else {
-            return noted(notes, body, sums);
-        };
-        at += size;
+        let command = known(code, at);
+        at += stride(byte_at(code, at), command);
         going = !is_end(command);
-        let inner = left;
-        left = left_after(left, command);
-        if inner == 0 {
-            let runs = times(command);
-            if 0 < runs {
-                let b = named(command);
-                let start = layout.starts[b];
-                let next = count(table, &table[start..], layout, b, notes);
-                notes = next;
-                let with = added(sums, command, runs as u64, next[b]);
-                sums = with;
-            } else {
-                let with = added(sums, command, 0, [0u64; 4]);
-                sums = with;
+        let runs = times(command);
+        if 0 < runs {
+            let b = named(command);
+            let row = notes[b];
+            if row[0] == 0 {
+                let start = starts[b];
+                count(table, &table[start..], starts, b, notes);
             }
+            let with = added(sums, command, runs as u64, notes[b]);
+            sums = with;
+        } else {
+            let with = added(sums, command, 0, [0u64; 4]);
+            sums = with;
         }
     }
-    noted(notes, body, sums)
+    notes[body] = sums;
 }
 
 // The four counts of body 0 of an accepted table, saturated.
-pub fn counts(table: &[u8], layout: Layout) -> [u64; 4]
-    requires { ⌜ (scan (now table) ≡ 0) × (layout ≡ layoutOf (now table)) ⌝ }
+pub fn counts(table: &[u8], starts: &[usize]) -> [u64; 4]
+    requires { ⌜ (scan (now table) ≡ 0) × (now starts ≡ layoutOf (now table) .starts) ⌝ }
     ensures { λ r. ⌜ Counts (now (table .entry)) 0 r ⌝ }
 {
-    let start = layout.starts[0];
-    let notes = count(table, &table[start..], layout, 0, [[0u64; 4]; 16]);
+    let start = starts[0];
+    let mut notes = [[0u64; 4]; 16];
+    count(table, &table[start..], starts, 0, &mut notes);
     notes[0]
 }

@@ -1,14 +1,13 @@
 // One command from the slice that starts at it.
 ghost use mathlib.Core.Path.{_≡_};
-ghost use mathlib.Core.List.{[]};
-ghost use Prim.Native.Nat.{_<_, _≤_};
-ghost use lib.ListN.{length, getD, drop};
-ghost use Rattle.program.specs.Command.{word, rowAt};
-ghost use Rattle.program.specs.Inner.Coding.{ranges, withinCode, Made};
-ghost use Rattle.program.specs.Reading.{read, bare, allInside};
+ghost use Prim.Native.Nat.{_<_};
+ghost use lib.ListN.{getD, drop};
+ghost use Rattle.program.specs.Command.{word};
+ghost use Rattle.program.specs.Inner.Coding.{Fitting, Made};
+ghost use Rattle.program.specs.Reading.{read, bare};
 use super::command::Command;
 use super::command::wide;
-use super::rows::column;
+use super::command::width_at;
 
 // What stands at the start of a slice.
 pub enum Reading {
@@ -84,53 +83,25 @@ fn command_of(op: usize, x: u8, y: u8, v: u32) -> Command
     }
 }
 
-// The least operand of a kind.
-fn least(kind: usize) -> u8
-    requires { ⌜ kind < 9 ⌝ }
-    ensures { λ r. ⌜ r ≡ getD (getD ranges kind []) 0 0 ⌝ }
+// Whether the operands of a command byte, the first x and the second y, are inside their ranges.
+fn operands_fit(op: usize, x: u8, y: u8) -> bool
+    requires { ⌜ op < 17 ⌝ }
+    ensures { λ r. ⌜ Fitting op x y r ⌝ }
 {
-    if kind == 7 { 1 } else { 0 }
-}
-
-// The greatest operand of a kind.
-fn greatest(kind: usize) -> u8
-    requires { ⌜ kind < 9 ⌝ }
-    ensures { λ r. ⌜ r ≡ getD (getD ranges kind []) 1 0 ⌝ }
-{
-    match kind {
-        0 => 255,
-        1 => 7,
-        2 => 7,
-        3 => 2,
-        4 => 255,
-        5 => 255,
-        6 => 255,
-        7 => 8,
-        8 => 15,
-        _ => 255,
+    match op {
+        2 => x < 8,
+        3 => x < 8,
+        4 => x < 8,
+        8 => x < 8 && y < 3,
+        9 => x < 8,
+        10 => x < 8,
+        11 => x < 8,
+        13 => x < 16,
+        14 => x < 16,
+        15 => x < 16,
+        16 => 1 <= x && x <= 8,
+        _ => true,
     }
-}
-
-// Whether an operand is inside the range of its kind.
-fn within(kind: usize, x: u8) -> bool
-    requires { ⌜ kind < 9 ⌝ }
-    ensures { λ r. ⌜ r ≡ withinCode kind x ⌝ }
-{
-    least(kind) <= x && x <= greatest(kind)
-}
-
-// Whether each operand of a command byte is inside its range.
-fn operands_fit(op: usize, operands: &[u8]) -> bool
-    requires { ⌜ (op < 17) × (length (rowAt op .operands) ≤ length (now operands)) ⌝ }
-    ensures { λ r. ⌜ r ≡ allInside (rowAt op .operands) (now (operands .entry)) ⌝ }
-{
-    if !within(column(op, 1), byte_at(operands, 0)) {
-        return false;
-    }
-    if !within(column(op, 2), byte_at(operands, 1)) {
-        return false;
-    }
-    within(column(op, 3), byte_at(operands, 2))
 }
 
 // The command at the start of a slice: numbers 3, 4 and 5 in this order.
@@ -144,14 +115,14 @@ pub fn read(code: &[u8]) -> Reading
     if 17 <= op {
         return Reading::Unknown;
     }
-    let size = column(op, 0);
+    let size = width_at(code[0]);
     if code.len() < size {
         return Reading::Cut;
     }
     let rest = &code[1..];
-    if operands_fit(op, rest) {
-        let x = byte_at(rest, 0);
-        let y = byte_at(rest, 1);
+    let x = byte_at(rest, 0);
+    let y = byte_at(rest, 1);
+    if operands_fit(op, x, y) {
         let v = value_of(op, rest);
         Reading::Whole {
             command: command_of(op, x, y, v),

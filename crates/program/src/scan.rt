@@ -1,8 +1,11 @@
-// A whole table: numbers 1 to 8.
+// A whole table: numbers 1 to 8, where each body begins, and the place of every command.
 ghost use mathlib.Core.Path.{_≡_};
+ghost use Prim.Native.Nat.{_+_, _<_, _≤_};
+ghost use lib.ListN.{length};
 ghost use Rattle.program.specs.Reading.{refusalOf, readings};
 ghost use Rattle.program.specs.Scan.{nameFits, placing, leftAfter};
-ghost use Rattle.program.specs.Inner.Scanned.{opening, extentOf, numberIn, refusedBy, scannedOf};
+ghost use Rattle.program.specs.Places.{placesOf};
+ghost use Rattle.program.specs.Inner.Scanned.{opening, extentOf, markOf, MarksBody, numberIn, refusedBy, scannedOf};
 use super::command::Command;
 use super::command::held;
 use super::command::is_end;
@@ -78,9 +81,25 @@ pub fn left_after(left: usize, command: Command) -> usize
     if left == 0 { held(command) } else { left - 1 }
 }
 
-// The body at the start of a slice.
-fn body_extent(code: &[u8], bodies: usize, body: usize) -> Extent
+// The mark of a command of a body: 0 where it belongs to an ATOM.
+fn mark(body: usize, left: usize) -> u8
+    requires { ⌜ body < 16 ⌝ }
+    ensures { λ r. ⌜ r ≡ markOf body left ⌝ }
+{
+    if left == 0 { (body + 1) as u8 } else { 0 }
+}
+
+// The body at the start of a slice, whose first byte is byte `first` of the table. Its commands are marked.
+fn body_extent(
+    code: &[u8],
+    bodies: usize,
+    body: usize,
+    first: usize,
+    marks: &mut [u8; 2048],
+) -> Extent
+    requires { ⌜ (body < 16) × (first + length (now code) ≤ 2048) ⌝ }
     ensures { λ r. ⌜ r ≡ extentOf bodies body 0 0 (readings (now (code .entry))) ⌝ }
+    ensures { λ r. ⌜ MarksBody body (now (code .entry)) first (now (marks .entry)) (now (marks .exit)) r ⌝ }
 {
     let mut at: usize = 0;
     let mut left: usize = 0;
@@ -93,11 +112,12 @@ fn body_extent(code: &[u8], bodies: usize, body: usize) -> Extent
         if number != 0 {
             return Extent::Refused(number);
         }
+        marks[first + at] = mark(body, left);
+        at += size;
         if is_end(command) {
-            return Extent::Ended(at + size);
+            return Extent::Ended(at);
         }
         left = left_after(left, command);
-        at += size;
     }
 }
 
@@ -144,10 +164,13 @@ fn number_in(extent: Extent) -> u8
     }
 }
 
-// Reads a whole table: numbers 1 to 8 in checking order, and where each body begins.
-pub fn scan(table: &[u8]) -> Scanned
+// Reads a whole table: numbers 1 to 8 in checking order, and where each body begins. For each byte the mark is the number of its body plus 1 where a command
+// of the body starts, and 0 elsewhere: all 0 where the table is turned down.
+pub fn scan(table: &[u8], marks: &mut [u8; 2048]) -> Scanned
     ensures { λ r. ⌜ r ≡ scannedOf (now (table .entry)) ⌝ }
+    ensures { λ _. ⌜ now (marks .exit) ≡ placesOf (now (table .entry)) ⌝ }
 {
+    *marks = [0u8; 2048];
     let number = opening(table);
     if number != 0 {
         return refused(number);
@@ -157,8 +180,9 @@ pub fn scan(table: &[u8]) -> Scanned
     let mut at: usize = 1;
     let mut body: usize = 0;
     while body < bodies {
-        let found = body_extent(&table[at..], bodies, body);
+        let found = body_extent(&table[at..], bodies, body, at, marks);
         let Extent::Ended(size) = found else {
+            *marks = [0u8; 2048];
             return refused(number_in(found));
         };
         starts[body] = at;
@@ -166,6 +190,7 @@ pub fn scan(table: &[u8]) -> Scanned
         body += 1;
     }
     if at < table.len() {
+        *marks = [0u8; 2048];
         return refused(8);
     }
     Scanned {

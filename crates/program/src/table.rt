@@ -1,6 +1,7 @@
 // A table that is read and counted: numbers 1 to 12.
 ghost use mathlib.Core.Path.{_≡_};
 ghost use Prim.Native.Nat.{_+_};
+ghost use Rattle.program.specs.Places.{placesOf};
 ghost use Rattle.program.specs.Table.{workLimit, tableOf, refusedWith};
 ghost use Rattle.program.specs.Inner.Counting.{overCounts};
 use super::count::counts;
@@ -53,17 +54,19 @@ fn over(totals: [u64; 4]) -> u8
     0
 }
 
-// Reads and counts a table: numbers 1 to 12 in checking order.
-pub fn read_table(table: &[u8]) -> Table
+// Reads and counts a table: numbers 1 to 12 in checking order. For each byte the mark is the number of its body plus 1 where a command of the body starts, and
+// 0 elsewhere: all 0 where one of the numbers 1 to 8 turns the table down.
+pub fn read_places(table: &[u8], marks: &mut [u8; 2048]) -> Table
     ensures { λ r. ⌜ r ≡ tableOf workLimit (now (table .entry)) ⌝ }
+    ensures { λ _. ⌜ now (marks .exit) ≡ placesOf (now (table .entry)) ⌝ }
 {
-    let scanned = scan(table);
+    let scanned = scan(table, marks);
     let number = scanned.number;
     if number != 0 {
         return refused_with(number);
     }
     let layout = scanned.layout;
-    let totals = counts(table, layout);
+    let totals = counts(table, &layout.starts);
     let above = over(totals);
     if above != 0 {
         return refused_with(above);
@@ -76,4 +79,12 @@ pub fn read_table(table: &[u8]) -> Table
         clocks: totals[2],
         accumulators: totals[3],
     }
+}
+
+// The same without the places.
+pub fn read_table(table: &[u8]) -> Table
+    ensures { λ r. ⌜ r ≡ tableOf workLimit (now (table .entry)) ⌝ }
+{
+    let mut marks = [0u8; 2048];
+    read_places(table, &mut marks)
 }

@@ -4,9 +4,8 @@ ghost use Rattle.program.specs.Bodies.{programOf};
 ghost use Rattle.program.specs.Table.{workLimit, numberOf, tableOf};
 ghost use Rattle.wellformed.specs.Passing.{unfitBytes};
 use lent::state_passes;
-use program::places::places;
 use program::table::Table;
-use program::table::read_table;
+use program::table::read_places;
 
 mod made; // made.rt: how many activities, clocks and accumulators were made
 mod marks; // marks.rt: places, by the table's marks
@@ -27,7 +26,8 @@ pub struct Checked {
 pub fn check_state(table: &[u8], state: &[u8]) -> Checked
     ensures { λ r. ⌜ (r .number ≡ unfitBytes (numberOf workLimit (now (table .entry))) (programOf (now (table .entry))) (now (state .entry))) × (r .table ≡ tableOf workLimit (now (table .entry))) ⌝ }
 {
-    let read = read_table(table);
+    let mut marks = [0u8; 2048];
+    let read = read_places(table, &mut marks);
     let number = read.number;
     if number != 0 {
         return Checked {
@@ -35,7 +35,6 @@ pub fn check_state(table: &[u8], state: &[u8]) -> Checked
             table: read,
         };
     }
-    let marks = places(table);
     let layout = read.layout;
     let starts = layout.starts;
     let work = read.work;

@@ -1,13 +1,11 @@
 -- The table is read, its commands are counted and written; what is turned down leaves the entries.
-use Prim.Native.Nat.{_≤_}
 use native.Mathlib.Omega.{arith}
 use mathlib.Core.Path.{_≡_, sym, ap, _∙_}
 use borrow.Author.Needs.{needs}
-use lib.ListN.{length}
+use Rattle.program.specs.Scan.{scan}
 use Rattle.program.specs.Table.{workLimit, numberOf}
 use Rattle.program.specs.declared.table.Table.{Table}
 use Rattle.program.proofs.ShapeLaws.{table-number, numbered}
-use Rattle.program.proofs.ShapeListed.{passes}
 use Rattle.builder.proofs.Answers.{list-refused, list-short, list-done}
 use Rattle.builder.proofs.list.Statement.{statement}
 use Rattle.builder.proofs.list.Tie as tie
@@ -23,9 +21,9 @@ number-here c = ap (λ (x : Table). x .number) (c .before .read-table .ensures) 
 accepted : (c : tie.Else1) → numberOf workLimit (c .before .before .before .before .args .table .now) ≡ 0
 accepted c = sym (number-here (c .before)) ∙ c .if1 .left
 
--- It has bytes.
-some : (c : tie.Else1) → 1 ≤ length (c .before .before .before .before .args .table .now)
-some c = omega (arith, passes _ (numbered workLimit _ (accepted c)) .long)
+-- It passes the scan.
+passed : (c : tie.Else1) → scan (c .before .before .before .before .args .table .now) ≡ 0
+passed c = numbered workLimit _ (accepted c)
 
 returns : tie.Need-returns
 returns c =
@@ -46,5 +44,5 @@ returns-3 c =
 pub list-spec : {M : Type 1} → statement M
 list-spec =
     tie.close
-    (tie.spec (λ read-table-requires κs. search needs) returns (λ c κs. some c) returns-2
-    (λ c κs. (some (c .before .before .before), omega (arith, c .before .if2 .left, c .before .before .count .ensures))) (λ same-length. search needs) returns-3)
+    (tie.spec (λ read-table-requires κs. search needs) returns (λ c κs. passed c) returns-2
+    (λ c κs. (passed (c .before .before .before), omega (arith, c .before .if2 .left, c .before .before .count .ensures))) (λ same-length. search needs) returns-3)

@@ -5,13 +5,12 @@ use mathlib.Core.Logic.{_⊎_}
 use mathlib.Core.List.{List, []}
 use mathlib.Core.Bool.{cond}
 use lib.Dec.{ltb}
-use lib.ListN.{getD, drop}
+use lib.ListN.{length, getD, drop}
 use Rattle.program.specs.Bodies.{programOf}
 use Rattle.program.specs.Count.{tally}
 use Rattle.program.specs.Inner.Coding.{weight}
 use Rattle.program.specs.Scan.{scan, layoutOf}
 use Rattle.program.specs.declared.command.Command.{Command}
-use Rattle.program.specs.declared.scan.Layout.{Layout}
 use Rattle.program.specs.Table.{workLimit}
 
 -- The counts are saturated one above the greatest limit.
@@ -33,13 +32,14 @@ Counts t i row = (k : ℕ) → k < 4 → getD row k 0 ≡ cap (tally (weight k) 
 unfoldable pub Noted : List ℕ → List (List ℕ) → Type 0
 Noted t notes = (i : ℕ) → (getD (getD notes i []) 0 0 ≡ 0) ⊎ Counts t i (getD notes i [])
 
--- What the count of a body is asked for: an accepted table with its layout, and the slice from the body's first command.
-pub record Counting (t code : List ℕ) (l : Layout) (body : ℕ) (notes : List (List ℕ)) : Type 0 where
+-- What the count of a body is asked for: an accepted table with the starts of its bodies, and the slice from the body's first command.
+pub record Counting (t code starts : List ℕ) (body : ℕ) (notes : List (List ℕ)) : Type 0 where
   pub accepted : scan t ≡ 0
-  pub layout-is : l ≡ layoutOf t
-  pub one-of : body < l .bodies
-  pub code-is : code ≡ drop (getD (l .starts) body 0) t
+  pub starts-are : starts ≡ layoutOf t .starts
+  pub one-of : body < getD t 0 0
+  pub code-is : code ≡ drop (getD starts body 0) t
   pub noted : Noted t notes
+  pub long : length notes ≡ 16
 
 -- What it answers: the body's row is filled.
 pub record Filled (t : List ℕ) (body : ℕ) (notes : List (List ℕ)) : Type 0 where

@@ -1,11 +1,14 @@
--- What the code answers on its way to the number of a table: of its first two bytes, of one body, and of the whole scan.
-use Prim.Native.Nat.{ℕ, _+_}
-use mathlib.Core.List.{List, [], _∷_}
+-- What the code answers on its way to the number of a table: of its first two bytes, of one body with its marks, and of the whole scan.
+use Prim.Native.Nat.{ℕ, _+_, _-_}
+use mathlib.Core.Path.{_≡_}
+use mathlib.Core.List.{List, [], _∷_, _++_}
 use mathlib.Core.Bool.{cond}
 use lib.Dec.{eqb}
+use lib.ListN.{length, drop, replicate}
 use Rattle.program.specs.Command.{isEnd}
-use Rattle.program.specs.Reading.{refusalOf}
+use Rattle.program.specs.Reading.{refusalOf, readings, wholes}
 use Rattle.program.specs.Scan.{placing, leftAfter, fitsLength, fitsBodies, scan, layoutOf, noLayout}
+use Rattle.program.specs.Places.{marks}
 use Rattle.program.specs.declared.reading.Reading.{Reading}
 use Rattle.program.specs.declared.reading.Reading.the-variants.{Whole, Unknown, Cut, Outside}
 use Rattle.program.specs.declared.scan.Extent.{Extent}
@@ -43,6 +46,20 @@ scannedOf t =
     let none = refusedBy (scan t) in
     cond (eqb (scan t) 0) whole none
 
+-- THE MARKS
+
 -- The mark of a command of body i, where `left` commands still belong to an ATOM.
 abbrev pub markOf : ℕ → ℕ → ℕ
 markOf i left = cond (eqb left 0) (i + 1) 0
+
+-- Before the command of body i at `at` of s, which begins at byte `first` of the table, and where `left` commands still belong to an ATOM: the marks up to there
+-- with those to come are all, and zeros follow.
+pub record Marking (all s : List ℕ) (i first at left : ℕ) (m : List ℕ) : Type 0 where
+  pub front : List ℕ
+  pub long : length front ≡ first + at
+  pub split : m ≡ front ++ replicate (2048 - (first + at)) 0
+  pub done : front ++ marks i left (wholes (readings (drop at s))) ≡ all
+
+-- Body i at the start of the code goes on with the marks, where it has an end.
+abbrev pub MarksBody : ℕ → List ℕ → ℕ → List ℕ → List ℕ → Extent → Type 0
+MarksBody i code first before after r = (all : List ℕ) (e : ℕ) → Ended e ≡ r → Marking all code i first 0 0 before → Marking all code (i + 1) first e 0 after

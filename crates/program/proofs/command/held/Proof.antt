@@ -1,19 +1,17 @@
--- It is the operand of its kind.
-use mathlib.Core.Path.{ap, _∙_}
-use Rattle.program.specs.Command.{operandWhere, rowOf, operandsOf, Operand, held}
-use mathlib.Core.Bool.{Bool}
-use Rattle.program.proofs.RowLaws.{held-kind}
+-- The other commands hold none.
+use native.Mathlib.Omega.{arith}
+use Rattle.program.specs.Command.{rows, rowAt, rowOf, held}
+use Rattle.program.proofs.RowLaws.{held-none}
 use borrow.Author.Needs.{needs}
 use Rattle.program.proofs.command.held.Statement.{statement}
 use Rattle.program.proofs.command.held.Tie as tie
-use Rattle.program.proofs.command.held.Reads as reads
-use Rattle.program.proofs.command.held.Lts as lts
-use Rattle.program.proofs.command.chosen.Reads as chosen-reads
 
 returns : tie.Need-returns
-unfolding held
-returns c = (c .chosen .ensures .0 ∙ ap (λ (test : Operand → Bool). operandWhere test 0 (rowOf (c .before .args .command) .operands) (operandsOf (c .before .args .command))) held-kind, c .chosen .ensures .1)
+unfolding held rowOf rowAt rows
+returns c = search needs
+
+returns-2 : tie.Need-returns-2
+returns-2 c = (held-none (c .before .args .command) (c .match .keys2), omega arith)
 
 pub held-spec : {M : Type 1} → statement M
-held-spec = tie.close
-    (tie.spec (λ chosen-requires κs. search needs) returns)
+held-spec = tie.close (tie.spec (λ enum-known-command. search needs) (λ wide-requires κs. search needs) returns returns-2)

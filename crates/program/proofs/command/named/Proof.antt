@@ -1,19 +1,25 @@
--- It is the operand of its kind.
-use mathlib.Core.Path.{ap, _∙_}
-use Rattle.program.specs.Command.{operandWhere, rowOf, operandsOf, Operand, named}
-use mathlib.Core.Bool.{Bool}
-use Rattle.program.proofs.RowLaws.{body-kind}
+-- The other commands name none.
+use native.Mathlib.Omega.{arith}
+use Rattle.program.specs.Command.{rows, rowAt, rowOf, named}
+use Rattle.program.proofs.RowLaws.{names-none}
 use borrow.Author.Needs.{needs}
 use Rattle.program.proofs.command.named.Statement.{statement}
 use Rattle.program.proofs.command.named.Tie as tie
-use Rattle.program.proofs.command.named.Reads as reads
-use Rattle.program.proofs.command.named.Lts as lts
-use Rattle.program.proofs.command.chosen.Reads as chosen-reads
 
 returns : tie.Need-returns
-unfolding named
-returns c = (c .chosen .ensures .0 ∙ ap (λ (test : Operand → Bool). operandWhere test 0 (rowOf (c .before .args .command) .operands) (operandsOf (c .before .args .command))) body-kind, c .chosen .ensures .1)
+unfolding named rowOf rowAt rows
+returns c = search needs
+
+returns-2 : tie.Need-returns-2
+unfolding named rowOf rowAt rows
+returns-2 c = search needs
+
+returns-3 : tie.Need-returns-3
+unfolding named rowOf rowAt rows
+returns-3 c = search needs
+
+returns-4 : tie.Need-returns-4
+returns-4 c = (names-none (c .before .args .command) (c .match .keys4) .1, omega arith)
 
 pub named-spec : {M : Type 1} → statement M
-named-spec = tie.close
-    (tie.spec (λ chosen-requires κs. search needs) returns)
+named-spec = tie.close (tie.spec (λ enum-known-command. search needs) (λ wide-requires κs. search needs) (λ enum-known-command-2. search needs) (λ wide-requires-2 κs. search needs) (λ enum-known-command-3. search needs) (λ wide-requires-3 κs. search needs) returns returns-2 returns-3 returns-4)

@@ -1,51 +1,67 @@
--- The three operands are tried in turn.
-use mathlib.Core.Path.{_≡_, sym, ap₂, _∙_}
-use lib.ListN.{getD}
-use native.Mathlib.Omega.{arith}
-use borrow.Author.Tests.{not-true, not-false}
-use Rattle.program.specs.Command.{rowAt}
-use Rattle.program.specs.Inner.Coding.{coded, withinCode}
-use Rattle.program.proofs.RangeLaws.{kinds-few, first-out, second-out, third-left}
-use borrow.Author.Needs.{needs}
+-- Each arm tries the ranges of its row.
+use mathlib.Core.Path.{refl, sym}
+use borrow.Author.Tests.{lt-ltb, le-ltb, le-leb, lt-leb}
+use Rattle.program.specs.Command.{rows, rowAt, clockName, accumulatorName, operatorCode, commandCount, cellNumber}
+use Rattle.program.proofs.RangeLaws.{one-fits, two-fit, free-fits}
 use Rattle.program.proofs.reading.operands_fit.Statement.{statement}
 use Rattle.program.proofs.reading.operands_fit.Tie as tie
-use Rattle.program.proofs.reading.operands_fit.Reads as reads
-use Rattle.program.proofs.reading.operands_fit.Lts as lts
-use Rattle.program.proofs.rows.column.Reads as column-reads
-use Rattle.program.proofs.reading.byte_at.Reads as byte-at-reads
-use Rattle.program.proofs.reading.within.Reads as within-reads
-
--- What each test found.
-first : (c : tie.After-within) → withinCode (getD (coded (rowAt (c .before .before .before .before .args .op))) 1 0) (getD (c .before .before .before .before .args .operands .now) 0 0) ≡ c .within .result
-first c = sym (c .within .ensures ∙ ap₂ withinCode (c .before .before .column .ensures .0) (c .before .byte-at .ensures))
-
-second : (c : tie.After-within2) → withinCode (getD (coded (rowAt (c .before .before .before .before .before .before .before .before .args .op))) 2 0) (getD (c .before .before .before .before .before .before .before .before .args .operands .now) 1 0) ≡ c .within2 .result
-second c = sym (c .within2 .ensures ∙ ap₂ withinCode (c .before .before .column2 .ensures .0) (c .before .byte-at2 .ensures))
-
-third : (c : tie.After-within3) → withinCode (getD (coded (rowAt (c .before .before .before .before .before .before .before .before .before .before .before .before .args .op))) 3 0) (getD (c .before .before .before .before .before .before .before .before .before .before .before .before .args .operands .now) 2 0) ≡ c .within3 .result
-third c = sym (c .within3 .ensures ∙ ap₂ withinCode (c .before .before .column3 .ensures .0) (c .before .byte-at3 .ensures))
-
-within-requires : tie.Need-within-requires
-within-requires c κs = rw (c .before .column .ensures .0) (kinds-few (c .before .before .before .args .op) .0)
 
 returns : tie.Need-returns
-returns c = first-out (c .before .before .before .before .before .args .op) (c .before .before .before .before .before .args .operands .now) (λ i. omega (arith, c .before .before .before .before .shared-slice-known .given i)) (c .before .before .before .before .before .pre .1) (first (c .before) ∙ not-true _ (c .if1 .taken))
-
-within-requires-2 : tie.Need-within-requires-2
-within-requires-2 c κs = rw (c .before .column2 .ensures .0) (kinds-few (c .before .before .before .before .before .before .before .args .op) .1)
+unfolding rows rowAt
+returns c = one-fits (c .before .args .op) clockName (rw (c .match .keys1)) refl
 
 returns-2 : tie.Need-returns-2
-returns-2 c = second-out (c .before .before .before .before .before .before .before .before .before .args .op) (c .before .before .before .before .before .before .before .before .before .args .operands .now) (λ i. omega (arith, c .before .before .before .before .before .before .before .before .shared-slice-known .given i)) (c .before .before .before .before .before .before .before .before .before .pre .1) (first (c .before .before .before .before .before) ∙ not-false _ (c .before .before .before .before .if1 .left)) (second (c .before) ∙ not-true _ (c .if2 .taken))
-
-within-requires-3 : tie.Need-within-requires-3
-within-requires-3 c κs = rw (c .before .column3 .ensures .0) (kinds-few (c .before .before .before .before .before .before .before .before .before .before .before .args .op) .2)
+unfolding rows rowAt
+returns-2 c = one-fits (c .before .args .op) clockName (rw (c .match .keys2)) refl
 
 returns-3 : tie.Need-returns-3
-returns-3 c = sym (third c) ∙ third-left (c .before .before .before .before .before .before .before .before .before .before .before .before .args .op) (c .before .before .before .before .before .before .before .before .before .before .before .before .args .operands .now) (λ i. omega (arith, c .before .before .before .before .before .before .before .before .before .before .before .shared-slice-known .given i)) (c .before .before .before .before .before .before .before .before .before .before .before .before .pre .1) (first (c .before .before .before .before .before .before .before .before) ∙ not-false _ (c .before .before .before .before .before .before .before .if1 .left)) (second (c .before .before .before .before) ∙ not-false _ (c .before .before .before .if2 .left))
+unfolding rows rowAt
+returns-3 c = one-fits (c .before .args .op) clockName (rw (c .match .keys3)) refl
+
+returns-4 : tie.Need-returns-4
+unfolding rows rowAt
+returns-4 c = two-fit (c .before .before .args .op) accumulatorName operatorCode (rw (c .before .match .keys4)) (rw (lt-ltb _ _ (c .if1 .taken)))
+
+returns-5 : tie.Need-returns-5
+unfolding rows rowAt
+returns-5 c = two-fit (c .before .before .args .op) accumulatorName operatorCode (rw (c .before .match .keys4)) (rw (le-ltb _ _ (c .if1 .left)))
+
+returns-6 : tie.Need-returns-6
+unfolding rows rowAt
+returns-6 c = one-fits (c .before .args .op) accumulatorName (rw (c .match .keys5)) refl
+
+returns-7 : tie.Need-returns-7
+unfolding rows rowAt
+returns-7 c = one-fits (c .before .args .op) accumulatorName (rw (c .match .keys6)) refl
+
+returns-8 : tie.Need-returns-8
+unfolding rows rowAt
+returns-8 c = one-fits (c .before .args .op) accumulatorName (rw (c .match .keys7)) refl
+
+returns-9 : tie.Need-returns-9
+unfolding rows rowAt
+returns-9 c = one-fits (c .before .args .op) cellNumber (rw (c .match .keys8)) refl
+
+returns-10 : tie.Need-returns-10
+unfolding rows rowAt
+returns-10 c = one-fits (c .before .args .op) cellNumber (rw (c .match .keys9)) refl
+
+returns-11 : tie.Need-returns-11
+unfolding rows rowAt
+returns-11 c = one-fits (c .before .args .op) cellNumber (rw (c .match .keys10)) refl
+
+returns-12 : tie.Need-returns-12
+unfolding rows rowAt
+returns-12 c = one-fits (c .before .before .args .op) commandCount (rw (c .before .match .keys11)) (rw (le-leb _ _ (c .if2 .taken)))
+
+returns-13 : tie.Need-returns-13
+unfolding rows rowAt
+returns-13 c = one-fits (c .before .before .args .op) commandCount (rw (c .before .match .keys11)) (rw (lt-leb _ _ (c .if2 .left)))
+
+returns-14 : tie.Need-returns-14
+returns-14 c = free-fits (c .before .args .op) (c .before .pre) (c .match .rest)
 
 pub operands-fit-spec : {M : Type 1} → statement M
 operands-fit-spec =
     tie.close
-    (tie.spec (λ column-requires κs. search needs) (λ byte-at-requires κs. search needs) within-requires returns (λ column-requires-2 κs. search needs)
-    (λ byte-at-requires-2 κs. search needs) within-requires-2 returns-2 (λ column-requires-3 κs. search needs) (λ byte-at-requires-3 κs. search needs)
-    within-requires-3 returns-3)
+    (tie.spec returns returns-2 returns-3 returns-4 returns-5 returns-6 returns-7 returns-8 returns-9 returns-10 returns-11 returns-12 returns-13 returns-14)
