@@ -6,9 +6,9 @@ use mathlib.Core.Bool.{Bool, true, false, cond}
 use native.Mathlib.Omega.{arith}
 use lib.ListN.{length, drop, length-drop}
 use lib.Seq.{drop-drop}
-use lib.Dec.{eqb, ltb, eqb·suc-zero}
-use borrow.Author.Tests.{eq-eqb, ne-eqb, eqb-true, eqb-false, ltb-true}
-use Rattle.program.specs.Command.{rows, rowAt, rowOf, opcode, names, named, held, isEnd, usesCell}
+use lib.Dec.{eqb, eqb·suc-zero}
+use borrow.Author.Tests.{eq-eqb, ne-eqb, eqb-true, eqb-false}
+use Rattle.program.specs.Command.{rows, rowAt, rowOf, opcode, held, isEnd, usesCell}
 use Rattle.program.specs.Reading.{refusalOf, read, readings, wholes}
 use Rattle.program.specs.Bodies.{firstBody, afterEnd}
 use Rattle.program.specs.Scan.{nameFits, atomFits, placing, leftAfter, bodyAfter, verdict, bytes}
@@ -17,7 +17,7 @@ use Rattle.program.specs.declared.command.Command.{Command}
 use Rattle.program.specs.declared.reading.Reading.{Reading}
 use Rattle.program.specs.declared.reading.Reading.the-variants.{Whole, Unknown, Cut, Outside}
 use Rattle.program.specs.declared.scan.Extent.the-variants.{Refused, Ended}
-use Rattle.program.proofs.Basic.{apart, and-true}
+use Rattle.program.proofs.Basic.{apart}
 use Rattle.program.proofs.ShapeReading.{known}
 use Rattle.program.proofs.ReadLaws.{readings-whole, Stopped, ran-out, stopped, readings-stop, read-back}
 
@@ -60,12 +60,6 @@ module _ (n i left : ℕ) (c : Command) (ok : placing n i left c ≡ 0) where
       by true false p q h = absurd (let y : ⊥ = omega arith in y)
       by false b p q h = absurd (let y : ⊥ = omega arith in y)
 
-  pub name-after : names c ≡ true → (i < named c) × (named c < n)
-  unfolding nameFits
-  name-after some =
-      let q = and-true (ltb i (named c)) (ltb (named c) n) (rw some at (fits .0)) in
-      (ltb-true _ _ (q .0), ltb-true _ _ (q .1))
-
 -- END holds no commands and is not on cells, so nothing is left of an ATOM after it.
 end-op : (c : Command) → isEnd c ≡ true → opcode c ≡ 0
 unfolding isEnd
@@ -80,11 +74,6 @@ end-left n i (suc left) c ok e =
 
 -- A BODY THAT WAS READ TO ITS END
 
--- What the commands of body i name lies after it.
-unfoldable pub Names : ℕ → ℕ → List Command → Type 0
-Names n i [] = Unit {0}
-Names n i (c ∷ cs) = (names c ≡ true → (i < named c) × (named c < n)) × Names n i cs
-
 -- The body's bytes are the first `size`, and the scan goes on after them with the next body.
 pub record Span (n i left : ℕ) (s : List ℕ) (rs : List Reading) (size : ℕ) : Type 0 where
   pub some : 0 < size
@@ -92,7 +81,6 @@ pub record Span (n i left : ℕ) (s : List ℕ) (rs : List Reading) (size : ℕ)
   pub next : verdict n i left rs ≡ verdict n (i + 1) 0 (readings (drop size s))
   pub long : bytes (firstBody (wholes rs)) ≡ size
   pub after : afterEnd (wholes rs) ≡ wholes (readings (drop size s))
-  pub names : Names n i (firstBody (wholes rs))
 
 pub record Reached (n i left at e : ℕ) (s : List ℕ) (rs : List Reading) : Type 0 where
   pub size : ℕ
@@ -105,7 +93,7 @@ module _ (n i : ℕ) (lt : i < n) where
 
   module _ (left : ℕ) (s : List ℕ) (c : Command) (size : ℕ) (rs : List Reading) (whole : Whole c size ≡ read s) (rest : rs ≡ readings (drop size s)) (ok : placing n i left c ≡ 0) where
     ends : isEnd c ≡ true → Span n i left s (Whole c size ∷ rs) size
-    unfolding verdict wholes firstBody afterEnd bytes Names bodyAfter
+    unfolding verdict wholes firstBody afterEnd bytes bodyAfter
     ends stop =
         let k = known s (sym whole) in
         record {
@@ -114,11 +102,10 @@ module _ (n i : ℕ) (lt : i < n) where
           next = rw (here, eq-eqb _ _ ok, stop, end-left n i left c ok stop, rest);
           long = rw stop (let w = k .wide in omega arith);
           after = rw (stop, rest);
-          names = rw stop (name-after n i left c ok, tt);
         }
 
     goes : {more : ℕ} → isEnd c ≡ false → Span n i (leftAfter left c) (drop size s) rs more → Span n i left s (Whole c size ∷ rs) (size + more)
-    unfolding verdict wholes firstBody afterEnd bytes Names bodyAfter
+    unfolding verdict wholes firstBody afterEnd bytes bodyAfter
     goes {more} go p =
         let k = known s (sym whole) in
         let w = k .wide in
@@ -132,7 +119,6 @@ module _ (n i : ℕ) (lt : i < n) where
           next = rw (here, eq-eqb _ _ ok, go) (p .next ∙ ap (λ (x : List ℕ). verdict n (i + 1) 0 (readings x)) d);
           long = rw go (omega arith);
           after = rw go (p .after ∙ ap (λ (x : List ℕ). wholes (readings x)) d);
-          names = rw go (name-after n i left c ok, p .names);
         }
 
   pub reached : (rs : List Reading) (s : List ℕ) (left at e : ℕ) → rs ≡ readings s → Ended e ≡ extentOf n i left at rs → Reached n i left at e s rs

@@ -121,7 +121,7 @@ pub fn width_at(op: u8) -> usize
 }
 
 // Whether a command names a body.
-pub fn names(command: Command) -> bool
+pub(crate) fn names(command: Command) -> bool
     ensures { λ r. ⌜ r ≡ names command ⌝ }
 {
     match command {
@@ -157,7 +157,7 @@ pub fn times(command: Command) -> usize
 }
 
 // How many of the commands that follow belong to a command: the k of ATOM.
-pub fn held(command: Command) -> usize
+pub(crate) fn held(command: Command) -> usize
     ensures { λ r. ⌜ (r ≡ held command) × (r < 256) ⌝ }
 {
     match command {
@@ -167,14 +167,14 @@ pub fn held(command: Command) -> usize
 }
 
 // Whether a command is END.
-pub fn is_end(command: Command) -> bool
+pub(crate) fn is_end(command: Command) -> bool
     ensures { λ r. ⌜ r ≡ isEnd command ⌝ }
 {
     opcode(command) == 0
 }
 
 // Whether a command is one of 0D to 0F.
-pub fn uses_cell(command: Command) -> bool
+pub(crate) fn uses_cell(command: Command) -> bool
     ensures { λ r. ⌜ r ≡ usesCell command ⌝ }
 {
     let op = opcode(command);

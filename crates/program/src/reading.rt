@@ -105,7 +105,7 @@ fn operands_fit(op: usize, x: u8, y: u8) -> bool
 }
 
 // The command at the start of a slice: numbers 3, 4 and 5 in this order.
-pub fn read(code: &[u8]) -> Reading
+pub(crate) fn read(code: &[u8]) -> Reading
     ensures { λ r. ⌜ r ≡ read (now (code .entry)) ⌝ }
 {
     if code.len() == 0 {

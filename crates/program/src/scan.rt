@@ -35,7 +35,7 @@ pub struct Scanned {
 }
 
 // The number of a reading that found no whole command.
-pub fn refusal(found: Reading) -> u8
+fn refusal(found: Reading) -> u8
     ensures { λ r. ⌜ r ≡ refusalOf found ⌝ }
 {
     match found {
@@ -62,7 +62,7 @@ fn name_fits(bodies: usize, body: usize, command: Command) -> bool
 }
 
 // Numbers 6 and 7 in this order, or 0, where `left` commands still belong to an ATOM.
-pub fn placing(bodies: usize, body: usize, left: usize, command: Command) -> u8
+fn placing(bodies: usize, body: usize, left: usize, command: Command) -> u8
     ensures { λ r. ⌜ r ≡ placing bodies body left command ⌝ }
 {
     if !name_fits(bodies, body, command) {
@@ -75,7 +75,7 @@ pub fn placing(bodies: usize, body: usize, left: usize, command: Command) -> u8
 }
 
 // How many commands belong to an ATOM after a command.
-pub fn left_after(left: usize, command: Command) -> usize
+fn left_after(left: usize, command: Command) -> usize
     ensures { λ r. ⌜ r ≡ leftAfter left command ⌝ }
 {
     if left == 0 { held(command) } else { left - 1 }
@@ -122,7 +122,7 @@ fn body_extent(
 }
 
 // Numbers 1 and 2 in this order, or 0.
-pub fn opening(table: &[u8]) -> u8
+fn opening(table: &[u8]) -> u8
     ensures { λ r. ⌜ r ≡ opening (now (table .entry)) ⌝ }
 {
     if table.len() < 2 {

@@ -10,11 +10,6 @@ use Rattle.builder.specs.Filled.{Written}
 use Rattle.builder.proofs.Answers.{unmade, made, written-long, written-inside, written-number, written-bytes, build-refused, build-short, build-done}
 use Rattle.builder.proofs.build.Statement.{statement}
 use Rattle.builder.proofs.build.Tie as tie
-use Rattle.builder.proofs.build.Reads as reads
-use Rattle.builder.proofs.build.Lts as lts
-use Rattle.builder.proofs.bytes.copy.Reads as copy-reads
-use Rattle.builder.proofs.bytes.fill.Reads as fill-reads
-use Rattle.program.proofs.table.read_table.Reads as read-table-reads
 
 -- All bytes were made.
 written : (c : tie.Else1) → Written (c .before .before .before .before .before .args .entries .now) (c .before .before .fill .last .1 .0) (c .before .before .fill .result)

@@ -9,11 +9,6 @@ use Rattle.program.proofs.ShapeLaws.{table-number, numbered}
 use Rattle.builder.proofs.Answers.{list-refused, list-short, list-done}
 use Rattle.builder.proofs.list.Statement.{statement}
 use Rattle.builder.proofs.list.Tie as tie
-use Rattle.builder.proofs.list.Reads as reads
-use Rattle.builder.proofs.list.Lts as lts
-use Rattle.builder.proofs.commands.count.Reads as count-reads
-use Rattle.builder.proofs.commands.put.Reads as put-reads
-use Rattle.program.proofs.table.read_table.Reads as read-table-reads
 
 number-here : (c : tie.After-struct-known) → c .before .read-table .result .number ≡ numberOf workLimit (c .before .before .before .args .table .now)
 number-here c = ap (λ (x : Table). x .number) (c .before .read-table .ensures) ∙ table-number workLimit _

@@ -11,11 +11,6 @@ use Rattle.program.proofs.RowLaws.{width-few}
 use Rattle.builder.proofs.Filling.{Filling, filling-none, filling-over, filling-more, filling-done}
 use Rattle.builder.proofs.bytes.fill.Statement.{statement}
 use Rattle.builder.proofs.bytes.fill.Tie as tie
-use Rattle.builder.proofs.bytes.fill.Reads as reads
-use Rattle.builder.proofs.bytes.fill.Lts as lts
-use Rattle.builder.proofs.bytes.put_entry.Reads as put-entry-reads
-use Rattle.builder.proofs.bytes.size_of.Reads as size-of-reads
-use Rattle.builder.proofs.bytes.with_end.Reads as with-end-reads
 
 abbrev Inv-loop : tie.InvT-loop
 Inv-loop entries out₀ at₀ ends₀ i₀ out at ends i = Filling entries out at ends i

@@ -6,9 +6,6 @@ use lib.ListN.{length}
 use Rattle.builder.proofs.Walking.{Walking, walking-none, walking-done, walking-fits, walking-on}
 use Rattle.builder.proofs.commands.count.Statement.{statement}
 use Rattle.builder.proofs.commands.count.Tie as tie
-use Rattle.builder.proofs.commands.count.Reads as reads
-use Rattle.builder.proofs.commands.count.Lts as lts
-use Rattle.program.proofs.command.width_at.Reads as width-at-reads
 
 abbrev Inv-loop : tie.InvT-loop
 Inv-loop table at₀ n₀ at n = Walking table at n

@@ -12,11 +12,6 @@ use Rattle.builder.proofs.Walking.{Walking, walking-none, walking-done,
 use Rattle.builder.proofs.Copied.{copied, copied-more, copied-long, copied-all}
 use Rattle.builder.proofs.commands.put.Statement.{statement}
 use Rattle.builder.proofs.commands.put.Tie as tie
-use Rattle.builder.proofs.commands.put.Reads as reads
-use Rattle.builder.proofs.commands.put.Lts as lts
-use Rattle.builder.proofs.entry.entry_of.Reads as entry-of-reads
-use Rattle.program.proofs.command.width_at.Reads as width-at-reads
-use Rattle.program.proofs.reading.known.Reads as known-reads
 
 abbrev Inv-loop : tie.InvT-loop
 Inv-loop table entries₀ at₀ i₀ entries at i = Walking table at i × (entries ≡ copied (map entryOf (commandsOf table)) entries₀ i)

@@ -3,10 +3,6 @@ use borrow.Author.Needs.{needs}
 use Rattle.builder.specs.Build.{entryOf}
 use Rattle.builder.proofs.entry.entry_of.Statement.{statement}
 use Rattle.builder.proofs.entry.entry_of.Tie as tie
-use Rattle.builder.proofs.entry.entry_of.Reads as reads
-use Rattle.builder.proofs.entry.entry_of.Lts as lts
-use Rattle.program.proofs.command.opcode.Reads as opcode-reads
-use Rattle.program.proofs.command.operands.Reads as operands-reads
 
 returns : tie.Need-returns
 unfolding entryOf

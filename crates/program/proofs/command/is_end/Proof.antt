@@ -6,9 +6,6 @@ use Rattle.program.specs.Command.{isEnd}
 use borrow.Author.Needs.{needs}
 use Rattle.program.proofs.command.is_end.Statement.{statement}
 use Rattle.program.proofs.command.is_end.Tie as tie
-use Rattle.program.proofs.command.is_end.Reads as reads
-use Rattle.program.proofs.command.is_end.Lts as lts
-use Rattle.program.proofs.command.opcode.Reads as opcode-reads
 
 returns : tie.Need-returns
 unfolding isEnd

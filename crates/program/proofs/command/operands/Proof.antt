@@ -2,9 +2,6 @@
 use borrow.Author.Needs.{needs}
 use Rattle.program.proofs.command.operands.Statement.{statement}
 use Rattle.program.proofs.command.operands.Tie as tie
-use Rattle.program.proofs.command.operands.Reads as reads
-use Rattle.program.proofs.command.operands.Lts as lts
-use Rattle.program.proofs.command.bytes_of.Reads as bytes-of-reads
 
 returns : tie.Need-returns
 returns c = rw (c .enum-told .given .1)

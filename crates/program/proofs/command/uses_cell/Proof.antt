@@ -4,9 +4,6 @@ use Rattle.program.specs.Command.{usesCell}
 use borrow.Author.Needs.{needs}
 use Rattle.program.proofs.command.uses_cell.Statement.{statement}
 use Rattle.program.proofs.command.uses_cell.Tie as tie
-use Rattle.program.proofs.command.uses_cell.Reads as reads
-use Rattle.program.proofs.command.uses_cell.Lts as lts
-use Rattle.program.proofs.command.opcode.Reads as opcode-reads
 
 returns : tie.Need-returns
 unfolding usesCell

@@ -7,8 +7,6 @@ use Rattle.program.specs.Command.{rows, rowAt, widthAt}
 use Rattle.program.proofs.RowLaws.{none-left, width-alone}
 use Rattle.program.proofs.command.width_at.Statement.{statement}
 use Rattle.program.proofs.command.width_at.Tie as tie
-use Rattle.program.proofs.command.width_at.Reads as reads
-use Rattle.program.proofs.command.width_at.Lts as lts
 
 returns : tie.Need-returns
 unfolding rows rowAt widthAt

@@ -8,10 +8,6 @@ use Rattle.program.specs.Inner.Counting.{cap, Small}
 use Rattle.program.proofs.TotalLaws.{product, Upto, upto-none, upto-more, upto-all}
 use Rattle.program.proofs.count.added.Statement.{statement}
 use Rattle.program.proofs.count.added.Tie as tie
-use Rattle.program.proofs.count.added.Reads as reads
-use Rattle.program.proofs.count.added.Lts as lts
-use Rattle.program.proofs.count.own.Reads as own-reads
-use Rattle.program.proofs.count.capped.Reads as capped-reads
 
 abbrev Inv-loop : tie.InvT-loop
 Inv-loop command runs sums counts out₀ k₀ out k = (length out ≡ 4) × Upto k sums command runs counts out

@@ -4,8 +4,6 @@ use lib.ListN.{List·getD-eq-default}
 use borrow.Author.Needs.{needs}
 use Rattle.program.proofs.reading.byte_at.Statement.{statement}
 use Rattle.program.proofs.reading.byte_at.Tie as tie
-use Rattle.program.proofs.reading.byte_at.Reads as reads
-use Rattle.program.proofs.reading.byte_at.Lts as lts
 
 returns-2 : tie.Need-returns-2
 returns-2 c = sym (List·getD-eq-default (c .before .args .code .now) 0 (c .if1 .left))

@@ -3,8 +3,6 @@ use Rattle.program.specs.Command.{commandOf}
 use Rattle.program.proofs.RowLaws.{none-left}
 use Rattle.program.proofs.reading.command_of.Statement.{statement}
 use Rattle.program.proofs.reading.command_of.Tie as tie
-use Rattle.program.proofs.reading.command_of.Reads as reads
-use Rattle.program.proofs.reading.command_of.Lts as lts
 
 returns : tie.Need-returns
 unfolding commandOf

@@ -1,5 +1,5 @@
 -- Each arm tries the ranges of its row.
-use mathlib.Core.Path.{refl, sym}
+use mathlib.Core.Path.{refl}
 use borrow.Author.Tests.{lt-ltb, le-ltb, le-leb, lt-leb}
 use Rattle.program.specs.Command.{rows, rowAt, clockName, accumulatorName, operatorCode, commandCount, cellNumber}
 use Rattle.program.proofs.RangeLaws.{one-fits, two-fit, free-fits}

@@ -2,9 +2,6 @@
 use borrow.Author.Needs.{needs}
 use Rattle.program.proofs.reading.value_of.Statement.{statement}
 use Rattle.program.proofs.reading.value_of.Tie as tie
-use Rattle.program.proofs.reading.value_of.Reads as reads
-use Rattle.program.proofs.reading.value_of.Lts as lts
-use Rattle.program.proofs.reading.value.Reads as value-reads
 
 value-requires : tie.Need-value-requires
 value-requires c κs = search needs

@@ -8,7 +8,7 @@ use lib.ListN.{length, drop, set, length-drop}
 use lib.Seq.{drop-drop}
 use Rattle.program.specs.Reading.{read, readings}
 use Rattle.program.specs.Scan.{placing, leftAfter, bodyAfter}
-use Rattle.program.specs.Inner.Scanned.{extentOf, markOf, Marking}
+use Rattle.program.specs.Inner.Scanned.{extentOf, Marking}
 use Rattle.program.specs.declared.reading.Reading.the-variants.{Whole}
 use Rattle.program.proofs.Basic.{apart}
 use Rattle.program.proofs.RangeLaws.{tail-part}

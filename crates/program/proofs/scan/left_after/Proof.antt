@@ -5,9 +5,6 @@ use Rattle.program.proofs.ScanLaws.{left-more}
 use borrow.Author.Needs.{needs}
 use Rattle.program.proofs.scan.left_after.Statement.{statement}
 use Rattle.program.proofs.scan.left_after.Tie as tie
-use Rattle.program.proofs.scan.left_after.Reads as reads
-use Rattle.program.proofs.scan.left_after.Lts as lts
-use Rattle.program.proofs.command.held.Reads as held-reads
 
 returns : tie.Need-returns
 unfolding leftAfter

@@ -4,10 +4,6 @@ use Rattle.program.specs.Scan.{nameFits}
 use borrow.Author.Needs.{needs}
 use Rattle.program.proofs.scan.name_fits.Statement.{statement}
 use Rattle.program.proofs.scan.name_fits.Tie as tie
-use Rattle.program.proofs.scan.name_fits.Reads as reads
-use Rattle.program.proofs.scan.name_fits.Lts as lts
-use Rattle.program.proofs.command.named.Reads as named-reads
-use Rattle.program.proofs.command.names.Reads as names-reads
 
 returns : tie.Need-returns
 unfolding nameFits

@@ -5,9 +5,6 @@ use Rattle.program.specs.Inner.Scanned.{opening}
 use borrow.Author.Needs.{needs}
 use Rattle.program.proofs.scan.opening.Statement.{statement}
 use Rattle.program.proofs.scan.opening.Tie as tie
-use Rattle.program.proofs.scan.opening.Reads as reads
-use Rattle.program.proofs.scan.opening.Lts as lts
-use Rattle.program.proofs.command.wide.Reads as wide-reads
 
 returns : tie.Need-returns
 unfolding opening fitsLength

@@ -4,10 +4,6 @@ use Rattle.program.specs.Scan.{placing, atomFits}
 use borrow.Author.Needs.{needs}
 use Rattle.program.proofs.scan.placing.Statement.{statement}
 use Rattle.program.proofs.scan.placing.Tie as tie
-use Rattle.program.proofs.scan.placing.Reads as reads
-use Rattle.program.proofs.scan.placing.Lts as lts
-use Rattle.program.proofs.command.uses_cell.Reads as uses-cell-reads
-use Rattle.program.proofs.scan.name_fits.Reads as name-fits-reads
 
 returns : tie.Need-returns
 unfolding placing

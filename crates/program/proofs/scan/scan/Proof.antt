@@ -4,7 +4,7 @@ use Prim.Native.Nat.{ℕ, _+_, _-_, _≤_}
 use mathlib.Core.List.{List, _∷_}
 use native.Mathlib.Omega.{arith}
 use borrow.Author.Needs.{needs}
-use lib.ListN.{length, getD, drop, set, length-drop}
+use lib.ListN.{drop, set, length-drop}
 use Rattle.program.specs.Reading.{readings, commandsOf}
 use Rattle.program.specs.Scan.{scan}
 use Rattle.program.specs.Places.{marks}

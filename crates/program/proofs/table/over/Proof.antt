@@ -4,8 +4,6 @@ use Rattle.program.specs.Inner.Counting.{overCounts}
 use borrow.Author.Needs.{needs}
 use Rattle.program.proofs.table.over.Statement.{statement}
 use Rattle.program.proofs.table.over.Tie as tie
-use Rattle.program.proofs.table.over.Reads as reads
-use Rattle.program.proofs.table.over.Lts as lts
 
 returns : tie.Need-returns
 unfolding overCounts
