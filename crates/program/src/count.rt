@@ -15,7 +15,7 @@ use super::command::width_at;
 use super::reading::byte_at;
 use super::reading::known;
 
-// The bytes of the commands that count more than 1 work.
+// The bytes of the commands that count something else than 1 work.
 const NEXT: usize = 1;
 
 const CLOCK: usize = 2;
@@ -66,7 +66,8 @@ fn added(sums: [u64; 4], command: Command, runs: u64, counts: [u64; 4]) -> [u64;
     out
 }
 
-// Fills the row of a body in the notes. It goes down into the bodies that its commands name, which have greater numbers, and counts none twice.
+// Fills the row of a body in the notes, which have zeros for a body that is not counted yet. It goes down into the bodies that its commands name, which have
+// greater numbers, and counts none twice.
 fn count(table: &[u8], code: &[u8], starts: &[usize], body: usize, notes: &mut [[u64; 4]])
     requires { ⌜ Counting (now table) (now code) (now starts) body (now notes) ⌝ }
     ensures { λ _. ⌜ Filled (now (table .entry)) body (now (notes .exit)) ⌝ }

@@ -164,8 +164,7 @@ fn number_in(extent: Extent) -> u8
     }
 }
 
-// Reads a whole table: numbers 1 to 8 in checking order, and where each body begins. For each byte the mark is the number of its body plus 1 where a command
-// of the body starts, and 0 elsewhere: all 0 where the table is turned down.
+// Reads a whole table: numbers 1 to 8 in checking order, where each body begins, and the marks, all 0 where the table is turned down.
 pub fn scan(table: &[u8], marks: &mut [u8; 2048]) -> Scanned
     ensures { λ r. ⌜ r ≡ scannedOf (now (table .entry)) ⌝ }
     ensures { λ _. ⌜ now (marks .exit) ≡ placesOf (now (table .entry)) ⌝ }
