@@ -5,7 +5,7 @@ use native.Mathlib.Numerals.{add-one}
 use mathlib.Core.List.{List, [], _∷_}
 use mathlib.Core.Path.{_≡_, refl, sym, _∙_}
 use lib.ListN.{length, getD, drop, length-drop}
-use lib.Seq.{drop-cons, drop-drop}
+use lib.Seq.{drop-drop}
 use Rattle.program.specs.Command.{widthAt, width}
 use Rattle.program.specs.Reading.{read, bare, commandsOf}
 use Rattle.program.specs.Scan.{scan}
@@ -14,7 +14,7 @@ use Rattle.program.specs.declared.command.Command.the-variants.{End}
 use Rattle.program.specs.declared.reading.Reading.the-variants.{Whole}
 use Rattle.program.proofs.Basic.{apart}
 use Rattle.program.proofs.RangeLaws.{whole-bare}
-use Rattle.program.proofs.ShapeReading.{read-as, known}
+use Rattle.program.proofs.ShapeReading.{read-first, known}
 use Rattle.program.proofs.ShapeListed.{Listed, over, next, passes}
 
 -- The commands from the i-th on stand in the bytes from `at` on.
@@ -95,7 +95,7 @@ module _ {t : List ℕ} {at i : ℕ} (w : Walking t at i) where
 
     module _ {size : ℕ} (e : size ≡ widthAt (getD t at 0)) where
       wide : size ≡ width (ahead .command)
-      wide = e ∙ read-as (getD t at 0) (drop (suc at) t) (rw (drop-cons t at 0 h) at (ahead .own)) .wide
+      wide = e ∙ read-first t at (ahead .own)
 
       pub walking-fits : (0 < size) × (at + size ≤ length t)
       walking-fits =

@@ -15,8 +15,8 @@ use Rattle.program.specs.Inner.Scanned.{markOf, Marking}
 use Rattle.program.specs.declared.command.Command.{Command}
 use Rattle.program.specs.declared.reading.Reading.the-variants.{Whole}
 use Rattle.program.proofs.ShapeReading.{known}
+use Rattle.program.proofs.ShapeListed.{fit, none-left}
 use Rattle.program.proofs.ReadLaws.{readings-whole}
-use Rattle.program.proofs.ScanLaws.{end-left}
 
 -- Where the scan turns a table down there is no place.
 pub places-none : (t : List ℕ) → (scan t ≡ 0 → ⊥) → replicate 2048 0 ≡ placesOf t
@@ -68,7 +68,7 @@ marking-on {all} {s} {i} {first} {at} {left} {m} p {c} {size} whole fits =
 module _ {all s : List ℕ} (n i : ℕ) {first at : ℕ} (left : ℕ) {m : List ℕ} (c : Command) (p : Marking all s (bodyAfter i c) first at (leftAfter left c) m) where
   pub marking-end : placing n i left c ≡ 0 → isEnd c ≡ true → Marking all s (i + 1) first at 0 m
   unfolding bodyAfter
-  marking-end ok stop = rw (stop, end-left n i left c ok stop) at p
+  marking-end ok stop = rw (stop, none-left n i left c (fit n i left c ok) stop) at p
 
   pub marking-open : isEnd c ≡ false → Marking all s i first at (leftAfter left c) m
   unfolding bodyAfter

@@ -4,10 +4,10 @@ use mathlib.Core.Bool.{Bool, true, false, cond, _&&_, _||_}
 use mathlib.Core.List.{List, [], _∷_}
 use Prim.Native.Nat.{ℕ, suc, _+_, _-_, _<_, _≤_}
 use native.Mathlib.Omega.{arith}
-use lib.Dec.{eqb, ltb, leb}
+use lib.Dec.{ltb, leb}
 use lib.ListN.{length, getD, take, drop, length-drop, drop-of-length-le}
 use lib.Seq.{take-all, drop-cons}
-use borrow.Author.Tests.{ne-eqb, le-leb, lt-leb, lt-ltb, le-ltb}
+use borrow.Author.Tests.{le-leb, lt-leb, lt-ltb, le-ltb}
 use Rattle.program.specs.Command.{Operand, clockName, accumulatorName, operatorCode, mask, bodyNumber, runCount, commandCount, cellNumber, valueByte, inside, rows, rowAt, widthAt, commandOf}
 use Rattle.program.specs.Inner.Coding.{Fitting}
 use Rattle.program.specs.Reading.{allInside, read, bare}
@@ -17,6 +17,7 @@ use Rattle.program.specs.declared.reading.Reading.{Reading}
 use Rattle.program.specs.declared.reading.Reading.the-variants.{Whole, Unknown, Cut, Outside}
 use Rattle.program.proofs.Basic.{and-true, true-false}
 use Rattle.program.proofs.ShapeReading.{each-op}
+use Rattle.program.proofs.RowLaws.{Missed, isIn, missed}
 
 -- RANGES
 
@@ -75,23 +76,10 @@ all-free (kind ∷ kinds) e (x ∷ s) =
     let q = and-true (free kind) (allFree kinds) e in
     rw (inside-free kind x (q .0)) (all-free kinds (q .1) s)
 
--- The command bytes with a range, the last first: what the last arm knows of its byte, and that it is another.
+-- The command bytes with a range; the last arm has another, whose operands may be any bytes.
 abbrev ranged : List ℕ
 ranged = 16 ∷ 15 ∷ 14 ∷ 13 ∷ 11 ∷ 10 ∷ 9 ∷ 8 ∷ 4 ∷ 3 ∷ 2 ∷ []
 
-abbrev Missed : ℕ → List ℕ → Type 0
-Missed x [] = Unit {0}
-Missed x (k ∷ ks) = Missed x ks × (x ≡ k → ⊥)
-
-abbrev isIn : ℕ → List ℕ → Bool
-isIn x [] = false
-isIn x (k ∷ ks) = eqb x k || isIn x ks
-
-missed : (x : ℕ) (ks : List ℕ) → Missed x ks → isIn x ks ≡ false
-missed x [] h = refl
-missed x (k ∷ ks) h = rw (ne-eqb x k (h .1)) (missed x ks (h .0))
-
--- Its operands may be any bytes.
 pub free-fits : (op : ℕ) {x y : ℕ} → op < 17 → Missed op ranged → Fitting op x y true
 unfolding rowAt rows
 free-fits op few h s first second room =

@@ -1,13 +1,12 @@
 -- What a row says where the code looks it up: in the last arm of a `match`, and of every byte.
 use Prim.Native.Nat.{ℕ, zero, suc, _<_, _≤_}
 use mathlib.Core.Path.{_≡_, refl, sym, ap, _∙_}
-use mathlib.Core.Bool.{Bool, true, false, cond, _&&_}
+use mathlib.Core.Bool.{Bool, true, false, cond, _&&_, _||_}
 use mathlib.Core.List.{List, [], _∷_}
-use native.Mathlib.Decide.{ℕ-discrete}
 use native.Mathlib.Omega.{arith}
 use lib.Dec.{eqb, leb}
 use lib.ListN.{length, getD, List·getD-eq-default}
-use borrow.Author.Tests.{leb-true}
+use borrow.Author.Tests.{leb-true, ne-eqb}
 use types.Run.{OneOf, miss}
 use denote.Enum.Declared.{tagOf}
 use Rattle.program.specs.Command.{Row, rows, rowAt, widthAt, opcode, rowOf, names, named, times, held}
@@ -15,24 +14,31 @@ use Rattle.program.specs.Inner.Coding.{weight}
 use Rattle.program.specs.declared.command.Command.{Command}
 use Rattle.program.specs.declared.command.Command.the-variants.{End, Next, Clock, Resume, Drop, Async, Finish, Repeat, Acc, Offer, Read, Reset, Put, Fetch, Store, Add, Atom}
 use Rattle.program.proofs.command.Command.{the-type}
-use Rattle.program.proofs.Basic.{and-true}
+use Rattle.program.proofs.Basic.{and-true, true-false}
 use Rattle.program.proofs.ShapeReading.{each-op}
 
 -- THE LAST ARM OF A MATCH
 
--- A number that is none of those below a bound.
-abbrev pub Past : ℕ → ℕ → Type 0
-Past x zero = Unit {0}
-Past x (suc n) = Past x n × (x ≡ n → ⊥)
+-- What it knows of its number: none of the arms' numbers, the last arm's first.
+abbrev pub Missed : ℕ → List ℕ → Type 0
+Missed x [] = Unit {0}
+Missed x (k ∷ ks) = Missed x ks × (x ≡ k → ⊥)
 
--- It is not below the bound.
-pub none-left : (x n : ℕ) → x < n → Past x n → ⊥
-none-left x zero h past = omega arith
-none-left x (suc n) h past = by (ℕ-discrete x n) (λ less. none-left x n less (past .0))
-  where
-    by : Dec (x ≡ n) → (x < n → ⊥) → ⊥
-    by (yes e) lower = past .1 e
-    by (no e) lower = lower (omega arith)
+abbrev pub isIn : ℕ → List ℕ → Bool
+isIn x [] = false
+isIn x (k ∷ ks) = eqb x k || isIn x ks
+
+pub missed : (x : ℕ) (ks : List ℕ) → Missed x ks → isIn x ks ≡ false
+missed x [] h = refl
+missed x (k ∷ ks) h = rw (ne-eqb x k (h .1)) (missed x ks (h .0))
+
+-- Where each command byte has its arm, there is none left.
+abbrev every : List ℕ
+every = 16 ∷ 15 ∷ 14 ∷ 13 ∷ 12 ∷ 11 ∷ 10 ∷ 9 ∷ 8 ∷ 7 ∷ 6 ∷ 5 ∷ 4 ∷ 3 ∷ 2 ∷ 1 ∷ 0 ∷ []
+
+pub none-left : (op : ℕ) → op < 17 → Missed op every → ⊥
+none-left op few h =
+    true-false (isIn op every) (each-op (λ (x : ℕ). isIn x every ≡ true) refl refl refl refl refl refl refl refl refl refl refl refl refl refl refl refl refl op few) (missed op every h)
 
 -- The commands but ASYNC, FINISH and REPEAT, and those but ATOM.
 abbrev pub nameless : List ℕ
@@ -110,7 +116,7 @@ width-alone op h = rw (List·getD-eq-default rows (record { operands = []; work 
 -- WEIGHTS
 
 -- NEXT counts 2 work; ASYNC an activity, CLOCK a clock and ACC an accumulator.
-abbrev weighed : ℕ → List ℕ
+abbrev pub weighed : ℕ → List ℕ
 weighed op = cond (eqb op 1) 2 1 ∷ cond (eqb op 5) 1 0 ∷ cond (eqb op 2) 1 0 ∷ cond (eqb op 8) 1 0 ∷ []
 
 abbrev counts : Row → List ℕ

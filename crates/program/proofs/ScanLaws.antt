@@ -6,12 +6,12 @@ use mathlib.Core.Bool.{Bool, true, false, cond}
 use native.Mathlib.Omega.{arith}
 use lib.ListN.{length, drop, length-drop}
 use lib.Seq.{drop-drop}
-use lib.Dec.{eqb, eqb·suc-zero}
+use lib.Dec.{eqb}
 use borrow.Author.Tests.{eq-eqb, ne-eqb, eqb-true, eqb-false}
-use Rattle.program.specs.Command.{rows, rowAt, rowOf, opcode, held, isEnd, usesCell}
+use Rattle.program.specs.Command.{isEnd}
 use Rattle.program.specs.Reading.{refusalOf, read, readings, wholes}
 use Rattle.program.specs.Bodies.{firstBody, afterEnd}
-use Rattle.program.specs.Scan.{nameFits, atomFits, placing, leftAfter, bodyAfter, verdict, bytes}
+use Rattle.program.specs.Scan.{placing, leftAfter, bodyAfter, verdict, bytes}
 use Rattle.program.specs.Inner.Scanned.{extentOf}
 use Rattle.program.specs.declared.command.Command.{Command}
 use Rattle.program.specs.declared.reading.Reading.{Reading}
@@ -19,6 +19,7 @@ use Rattle.program.specs.declared.reading.Reading.the-variants.{Whole, U
 use Rattle.program.specs.declared.scan.Extent.the-variants.{Refused, Ended}
 use Rattle.program.proofs.Basic.{apart}
 use Rattle.program.proofs.ShapeReading.{known}
+use Rattle.program.proofs.ShapeListed.{fit, none-left}
 use Rattle.program.proofs.ReadLaws.{readings-whole, Stopped, ran-out, stopped, readings-stop, read-back}
 
 -- A BODY, COMMAND BY COMMAND
@@ -48,30 +49,6 @@ module _ (n i left at : ℕ) (s : List ℕ) where
       by Cut s rs stopped bad = refl
       by Outside s rs stopped bad = refl
 
--- WHAT NUMBERS 6 AND 7 LEAVE
-
-module _ (n i left : ℕ) (c : Command) (ok : placing n i left c ≡ 0) where
-  fits : (nameFits n i c ≡ true) × (atomFits left c ≡ true)
-  unfolding placing
-  fits = by (nameFits n i c) (atomFits left c) refl refl ok
-    where
-      by : (a b : Bool) → nameFits n i c ≡ a → atomFits left c ≡ b → _≡_ {A = ℕ} (cond a (cond b 0 7) 6) 0 → (nameFits n i c ≡ true) × (atomFits left c ≡ true)
-      by true true p q h = (p, q)
-      by true false p q h = absurd (let y : ⊥ = omega arith in y)
-      by false b p q h = absurd (let y : ⊥ = omega arith in y)
-
--- END holds no commands and is not on cells, so nothing is left of an ATOM after it.
-end-op : (c : Command) → isEnd c ≡ true → opcode c ≡ 0
-unfolding isEnd
-end-op c e = eqb-true _ _ e
-
-pub end-left : (n i left : ℕ) (c : Command) → placing n i left c ≡ 0 → isEnd c ≡ true → leftAfter left c ≡ 0
-unfolding held rowOf rowAt rows atomFits usesCell leftAfter
-end-left n i zero c ok e = rw (end-op c e)
-end-left n i (suc left) c ok e =
-    let z = rw (end-op c e, eqb·suc-zero left) at (fits n i (suc left) c ok .1) in
-    apart (cc)
-
 -- A BODY THAT WAS READ TO ITS END
 
 -- The body's bytes are the first `size`, and the scan goes on after them with the next body.
@@ -99,7 +76,7 @@ module _ (n i : ℕ) (lt : i < n) where
         record {
           some = k .some;
           inside = k .inside;
-          next = rw (here, eq-eqb _ _ ok, stop, end-left n i left c ok stop, rest);
+          next = rw (here, eq-eqb _ _ ok, stop, none-left n i left c (fit n i left c ok) stop, rest);
           long = rw stop (let w = k .wide in omega arith);
           after = rw (stop, rest);
         }

@@ -31,7 +31,7 @@ pub data Listed (n : ℕ) : ℕ → ℕ → List ℕ → List Command → Type 0
       → Listed n (bodyAfter i c) (leftAfter left c) (drop (width c) s) cs → Listed n i left s (c ∷ cs)
 
 -- A command with neither number 6 nor number 7.
-fit : (n i left : ℕ) (c : Command) → placing n i left c ≡ 0 → Fit n i left c
+pub fit : (n i left : ℕ) (c : Command) → placing n i left c ≡ 0 → Fit n i left c
 unfolding placing nameFits atomFits
 fit n i left c e =
     let f = passed (nameFits n i c) (cond (atomFits left c) 0 7) 5 e in

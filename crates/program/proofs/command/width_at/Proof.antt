@@ -81,7 +81,7 @@ returns-18 c = sym (width-alone (c .before .args .op) (by (decLe 17 (c .before .
   where
     by : Dec (17 ≤ c .before .args .op) → 17 ≤ c .before .args .op
     by (yes h) = h
-    by (no h) = absurd (none-left (c .before .args .op) 17 (omega arith) (c .match .rest))
+    by (no h) = absurd (none-left (c .before .args .op) (omega arith) (c .match .rest))
 
 pub width-at-spec : {M : Type 1} → statement M
 width-at-spec = tie.close (tie.spec returns returns-2 returns-3 returns-4 returns-5 returns-6 returns-7 returns-8 returns-9 returns-10 returns-11 returns-12 returns-13 returns-14 returns-15 returns-16 returns-17 returns-18)

@@ -73,7 +73,7 @@ unfolding commandOf
 returns-17 c s first second value = rw (← first, c .match .keys17)
 
 returns-18 : tie.Need-returns-18
-returns-18 c = absurd (none-left (c .before .args .op) 17 (c .before .pre) (c .match .rest))
+returns-18 c = absurd (none-left (c .before .args .op) (c .before .pre) (c .match .rest))
 
 pub command-of-spec : {M : Type 1} → statement M
 command-of-spec =
