@@ -1,5 +1,7 @@
 pub mod Tests
 pub mod Search
+pub mod Counting
+pub mod Awaited
 pub mod Sums
 pub mod Lists
 pub mod Sized
@@ -44,6 +46,7 @@ pub mod Start
 pub mod Calls
 pub mod Demand3
 pub mod Runs
+pub mod AwaitedCalls
 pub mod Opened
 mod Cases
 mod HistoryCases

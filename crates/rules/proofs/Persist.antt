@@ -19,12 +19,13 @@ use Rattle.rules.specs.State.{act, top, hold, accumulator, bound, isAtBa
 use Rattle.rules.specs.Clocks.{holds, isBehind, behind}
 use Rattle.rules.specs.Tree.{here, spawnerOf, inFinishBody, descends, inside}
 use Rattle.rules.specs.Faults.{unbound, numberUnder, readFault, faultFor}
-use Rattle.rules.specs.Waiting.{behindOf, unendedBelow, unendedInside, waitsFor, waitsAt}
+use Rattle.rules.specs.Waiting.{behindOf, unendedBelow, unendedInside, waitsFor}
 use Rattle.rules.specs.Effects.{one, lent, child, envOf, applied}
 use Rattle.rules.specs.WellFormed.{wellFormed}
 use Rattle.rules.specs.Steps.{Limits, at, fault, waits, effect, refusal, exceeds, canStep}
 use Rattle.rules.proofs.Tests.{and-true, and-intro, and-false, true-false, decide}
 use Rattle.rules.proofs.Search.{Witness, someBelow-witness, someBelow-intro, someBelow-all}
+use Rattle.rules.proofs.Awaited.{waitsAt, waits-live}
 use Rattle.rules.proofs.Sized.{Sized}
 use Rattle.rules.proofs.WellFormedFacts.{ActivityFacts, Facts, facts}
 use Rattle.rules.proofs.WellFormedShape.{born, Shape}
@@ -74,7 +75,7 @@ fault-same p s s′ x a h (Atom k) r = refl
 wait-before : (p : Program) (s s′ : State) (x : ℕ) (a : Activity) (y : ℕ) → (unendedInside s′ x (top a .first) y ≡ true → Witness (s .activities) (unendedInside s x (top a .first)))
     → (unendedBelow s′ x y ≡ true → Witness (s .activities) (unendedBelow s x)) → (behindOf s′ a y ≡ true → Witness (s .activities) (behindOf s a)) → (o : Command)
     → waitsFor p s′ x a o y ≡ true → waitsAt p s x a o ≡ true
-unfolding waitsFor waitsAt
+unfolding waitsFor
 wait-before p s s′ x a y ins bel beh End e =
     let q = and-true (inFinishBody p a) _ e in
     let w = ins (q .1) in
@@ -166,7 +167,7 @@ module _ (l : Limits) {p : Program} (ok : Accepted p) {s : State} (f : Facts (l 
     -- it waits for nobody, if it did not before
     no-wait : waitsAt p s x (act s x) (here p (top (act s x)) .command) ≡ false
         → waitsAt p (after p s i) x (act s x) (here p (top (act s x)) .command) ≡ false
-    unfolding waitsAt unendedInside unendedBelow inside descends behindOf
+    unfolding unendedInside unendedBelow inside descends behindOf
     no-wait h =
         someBelow-all (after p s i .activities) (waitsFor p (after p s i) x (act s x) (here p (top (act s x)) .command))
         (λ y m e. true-false _ (wait-before p s (after p s i) x (act s x) y (chain-before (leb (top (act s x) .first)) x d y m) (chain-before (λ y. true) x d y m) (at-barrier y m) (here p (top (act s x)) .command) e) h)
@@ -186,11 +187,20 @@ module _ (l : Limits) {p : Program} (ok : Accepted p) {s : State} (f : Facts (l 
                   (and-intro (holds (act s x) (w .at)) _ (q .0) (v .passes));
             }
 
+    -- it is spawned still
+    kept : x < after p s i .activities
+    kept = omega (arith, u .spawned, acts-after s i (effect p s i) .up)
+
     -- so it does not wait
     still-moves : waits p (after p s i) x ≡ false
-    unfolding waits fault at
-    still-moves = rw (record-old, same-fault) (go (decide (eqb (faultFor p (envOf s) x (act s x) (here p (top (act s x)) .command)) 0)) (u .moves))
+    unfolding at fault
+    still-moves =
+        waits-live p (after p s i) x kept (rw record-old (u .unended))
+        ∙ rw (command-old, record-old, same-fault) (go (decide (eqb (faultFor p (envOf s) x (act s x) (here p (top (act s x)) .command)) 0)) (sym (waits-live p s x (u .spawned) (u .unended)) ∙ u .moves))
       where
+        command-old : at p (after p s i) x .command ≡ here p (top (act s x)) .command
+        command-old = rw record-old
+
         n : ℕ
         n = faultFor p (envOf s) x (act s x) (here p (top (act s x)) .command)
 
@@ -201,7 +211,7 @@ module _ (l : Limits) {p : Program} (ok : Accepted p) {s : State} (f : Facts (l 
 
     -- and can step
     pub turn-kept : Turn p (after p s i) x
-    turn-kept = record { spawned = omega (arith, u .spawned, acts-after s i (effect p s i) .up); unended = rw record-old (u .unended); moves = still-moves }
+    turn-kept = record { spawned = kept; unended = rw record-old (u .unended); moves = still-moves }
 
 -- THE THEOREM
 

@@ -7,7 +7,6 @@ use mathlib.Core.Path.{_≡_, refl}
 use mathlib.Core.Logic.{_⊎_, inl, inr}
 use lib.ListN.{List·getD-eq-default}
 use lib.Dec.{eqb}
-use borrow.Author.Tests.{eqb-true}
 use Rattle.program.specs.declared.command.Command.{Command}
 use Rattle.program.specs.declared.command.Command.the-variants.{End, Next, Clock, Resume, Drop, Async, Finish, Repeat, Acc, Offer, Read, Reset, Put, Fetch, Store, Add, Atom}
 use Rattle.rules.specs.declared.state.Activity.{Activity}
@@ -17,11 +16,12 @@ use Rattle.rules.specs.State.{act, ended, isAtBarrier, hold, top, noHold
 use Rattle.rules.specs.Clocks.{holds, isLive, behind, isBehind, holdsSome}
 use Rattle.rules.specs.Tree.{descends, inside, inFinishBody}
 use Rattle.rules.specs.Faults.{Env, readFault, unbound, numberUnder, faultFor}
-use Rattle.rules.specs.Waiting.{behindOf, unendedInside, unendedBelow, waitsFor, waitsAt}
+use Rattle.rules.specs.Waiting.{behindOf, unendedInside, unendedBelow, waitsFor}
 use Rattle.rules.specs.Effects.{envOf}
 use Rattle.rules.specs.Steps.{at, fault, waits}
 use Rattle.rules.proofs.Tests.{and-true, true-false, not-true, decide}
 use Rattle.rules.proofs.Search.{someBelow-witness, someBelow-none}
+use Rattle.rules.proofs.Awaited.{waiting-parts}
 use Rattle.rules.proofs.Applied.{Bounded}
 use Rattle.rules.proofs.Behind.{behind-out}
 use Rattle.rules.proofs.Standstill.{View, AtMeeting, AtFinish, AtRead, Waits, closes, meets, reads, Sound, standstill}
@@ -123,11 +123,11 @@ waiting-for p s i x z l m (Atom k) f e = absurd (true-false _ e refl)
 
 -- Who waits, waits at one of the three.
 waiting : (p : Program) (s : State) (i : ℕ) → Bounded s → i < s .activities → waits p s i ≡ true → Waits (view p s) i
-unfolding waits waitsAt fault
+unfolding fault
 waiting p s i z l e =
-    let q = and-true (eqb (fault p s i) 0) _ e in
-    let w = someBelow-witness (s .activities) (waitsFor p s i (act s i) (at p s i .command)) (q .1) in
-    waiting-for p s i (w .at) z l (w .below) (at p s i .command) (eqb-true _ 0 (q .0)) (w .passes)
+    let q = waiting-parts p s i e in
+    let w = someBelow-witness (s .activities) (waitsFor p s i (act s i) (at p s i .command)) (q .some) in
+    waiting-for p s i (w .at) z l (w .below) (at p s i .command) (q .faultless) (w .passes)
 
 -- The invariants say what the argument asks of a view.
 sound : (p : Program) (s : State) (vt base : ℕ → ℕ) → Sane p s vt base → Sound (view p s) vt base

@@ -14,7 +14,7 @@ use Rattle.rules.specs.State.{faultNumber, faultOf, operatorNumber, oper
 use Rattle.rules.specs.declared.state.State.{State}
 use Rattle.rules.specs.Steps.{base, startState, start, advance}
 use Rattle.rules.specs.declared.answer.Answer.{Answer}
-use Rattle.rules.specs.Runs.{run, answers, isAccepted, taken, someFault, finished}
+use Rattle.rules.specs.Runs.{run, answers, awaiteds, isAccepted, taken, someFault, finished}
 
 -- The start's answer; the work and the activities counted; the steps' answers; at the end the steps taken, the activities ended and those spawned.
 pub record Expected : Type 0 where
@@ -74,21 +74,23 @@ numbered =
     && (sameList (map (λ o. operatorNumber (operatorOf o)) (0 ∷ 1 ∷ 2 ∷ [])) (0 ∷ 1 ∷ 2 ∷ [])
     && sameList (map registrationNumber (Free ∷ Live ∷ Quiesced ∷ [])) (0 ∷ 1 ∷ 2 ∷ []))))
 
--- The lines of a walk: the activity, the answer and the steps taken so far, `taken` of them before the first.
-unfoldable pub linesFrom : ℕ → List ℕ → List Answer → List (List ℕ)
-linesFrom taken [] more = []
-linesFrom taken (i ∷ order) [] = []
-linesFrom taken (i ∷ order) (a ∷ more) =
+-- The lines of a walk: the activity, the answer and the steps taken so far, `taken` of them before the first; "a walk line with 16 now ends with a blank and this
+-- number".
+unfoldable pub linesFrom : ℕ → List ℕ → List Answer → List ℕ → List (List ℕ)
+linesFrom taken [] more numbers = []
+linesFrom taken (i ∷ order) [] numbers = []
+linesFrom taken (i ∷ order) (a ∷ more) [] = []
+linesFrom taken (i ∷ order) (a ∷ more) (n ∷ numbers) =
     let next = taken + cond (isAccepted a) 1 0 in
-    (i ∷ answerNumber a ∷ next ∷ []) ∷ linesFrom next order more
+    (i ∷ answerNumber a ∷ next ∷ cond (eqb (answerNumber a) 16) (n ∷ []) []) ∷ linesFrom next order more numbers
 
--- The walk that document 01 prints, line by line.
+-- The walk that document 01 prints, line by line; "so document 01's line 4 becomes `4 0 16 3 1`".
 unfoldable pub printed : List (List ℕ)
 printed =
     (0 ∷ 0 ∷ 1 ∷ [])
     ∷ (0 ∷ 0 ∷ 2 ∷ [])
     ∷ (0 ∷ 0 ∷ 3 ∷ [])
-    ∷ (0 ∷ 16 ∷ 3 ∷ [])
+    ∷ (0 ∷ 16 ∷ 3 ∷ 1 ∷ [])
     ∷ (1 ∷ 0 ∷ 4 ∷ [])
     ∷ (0 ∷ 0 ∷ 5 ∷ [])
     ∷ (0 ∷ 0 ∷ 6 ∷ [])
@@ -104,7 +106,7 @@ abbrev pub walkOrder : List ℕ
 walkOrder = 0 ∷ 0 ∷ 0 ∷ 0 ∷ 1 ∷ 0 ∷ 0 ∷ 1 ∷ 1 ∷ 0 ∷ []
 
 unfoldable pub walkPrints : Bool
-walkPrints = sameLists (linesFrom 0 walkOrder (answers base walkTable walkOrder)) printed
+walkPrints = sameLists (linesFrom 0 walkOrder (answers base walkTable walkOrder) (awaiteds base walkTable walkOrder)) printed
 
 -- MARKED P
 

@@ -80,7 +80,7 @@ refused table s i number set = record { table = table; state = s; activity = i; 
 abbrev accepted : List ℕ → State → ℕ → ℕ → Answer → State → Handed
 accepted table s i set answer after = record { table = table; state = s; activity = i; answer = answer; after = after; number = 0; set = set }
 
-abbrev same : Activity → Activity
+abbrev pub same : Activity → Activity
 same a = a
 
 -- READ as the first command of body 0; main, ended or not, owns an accumulator and has a child that has not ended.
@@ -101,11 +101,11 @@ lined main accumulators =
 unfoldable pub finish : List ℕ
 finish = 0x02 ∷ 0x06 ∷ 0x01 ∷ 0x00 ∷ 0x00 ∷ []
 
-abbrev finishing : ℕ → Activity
+abbrev pub finishing : ℕ → Activity
 finishing first = activity Running 0 0 (bottom 0 0 ∷ frameAt 0 1 0 first ∷ []) [] []
 
 -- `paired` with main alone on its clock, in such a phase and so registered.
-abbrev lonely : ℕ → Registration → State
+abbrev pub lonely : ℕ → Registration → State
 lonely phase registration = change 0 (withHold 0 (holdOn phase 0 registration)) (change 1 (λ a. stopped a Ended) paired)
 
 unfoldable pub handMade : List Handed

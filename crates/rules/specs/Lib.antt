@@ -17,3 +17,4 @@ pub mod CasesValues
 pub mod CasesRuns
 pub mod CasesStates
 pub mod CasesCalls
+pub mod CasesAwaited

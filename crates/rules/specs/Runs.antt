@@ -8,7 +8,7 @@ use Rattle.rules.specs.declared.answer.Answer.{Answer}
 use Rattle.rules.specs.declared.answer.Answer.the-variants.{Accepted, Refused}
 use Rattle.rules.specs.Search.{allBelow}
 use Rattle.rules.specs.State.{ended}
-use Rattle.rules.specs.Steps.{Limits, start, step}
+use Rattle.rules.specs.Steps.{Limits, start, step, awaitedCount}
 
 -- "each later one the state that the step before returned, turned down or not"
 unfoldable pub runFrom : Limits → List ℕ → State → List ℕ → State
@@ -19,12 +19,20 @@ unfoldable pub answersFrom : Limits → List ℕ → State → List ℕ → List
 answersFrom l t s [] = []
 answersFrom l t s (i ∷ order) = step l t s i .answer ∷ answersFrom l t (step l t s i .state) order
 
--- "The first step is handed the start state". The state at the last point of a run, and its answers.
+-- How many the activity of each step waits for when the step is called.
+unfoldable pub awaitedFrom : Limits → List ℕ → State → List ℕ → List ℕ
+awaitedFrom l t s [] = []
+awaitedFrom l t s (i ∷ order) = awaitedCount l t s i ∷ awaitedFrom l t (step l t s i .state) order
+
+-- "The first step is handed the start state". The state at the last point of a run, its answers, and how many each step waits for.
 unfoldable pub run : Limits → List ℕ → List ℕ → State
 run l t order = runFrom l t (start l t .state) order
 
 unfoldable pub answers : Limits → List ℕ → List ℕ → List Answer
 answers l t order = answersFrom l t (start l t .state) order
+
+unfoldable pub awaiteds : Limits → List ℕ → List ℕ → List ℕ
+awaiteds l t order = awaitedFrom l t (start l t .state) order
 
 -- "A step is accepted if its answer is a step or a fault."
 abbrev pub isAccepted : Answer → Bool

@@ -1,7 +1,7 @@
--- The calls: start, step, ready set and standing sheet, with the numbers for which each is turned down, in checking order.
+-- The calls: start, step, ready set, how many an activity waits for, and standing sheet, with the numbers for which each is turned down, in checking order.
 use Prim.Native.Nat.{ℕ}
 use mathlib.Core.List.{List, [], _∷_}
-use mathlib.Core.Bool.{Bool, true, false, cond, _||_, _&&_}
+use mathlib.Core.Bool.{Bool, true, false, cond, _||_, _&&_, not}
 use lib.ListN.{set, replicate}
 use lib.Dec.{ltb, leb, eqb}
 use Rattle.program.specs.Bodies.{Located, Program, programOf}
@@ -19,7 +19,7 @@ use Rattle.rules.specs.State.{faultOf, registrationNumber, noActivity, z
 use Rattle.rules.specs.Clocks.{isHeld}
 use Rattle.rules.specs.Tree.{here}
 use Rattle.rules.specs.Faults.{faultFor}
-use Rattle.rules.specs.Waiting.{waitsAt}
+use Rattle.rules.specs.Waiting.{awaitedAt}
 use Rattle.rules.specs.Effects.{Spawned, nobody, one, Write, keep, make, offer, reset, Effect, withFrames, effectOf, failing, envOf, applied}
 use Rattle.rules.specs.WellFormed.{wellFormed}
 
@@ -42,9 +42,15 @@ at p s i = here p (top (act s i))
 unfoldable pub fault : Program → State → ℕ → ℕ
 fault p s i = faultFor p (envOf s) i (act s i) (at p s i .command)
 
--- "16. The activity waits."
+-- How many activities it waits for. One that is unspawned or has ended waits for none; "Faults come before waiting."
+unfoldable pub awaited : Program → State → ℕ → ℕ
+awaited p s i =
+    let n = awaitedAt p s i (act s i) (at p s i .command) in
+    cond (ltb i (s .activities) && (not (ended s i) && eqb (fault p s i) 0)) n 0
+
+-- "16. The activity waits." The number "is 0 exactly for an activity that doesn't wait."
 unfoldable pub waits : Program → State → ℕ → Bool
-waits p s i = eqb (fault p s i) 0 && waitsAt p s i (act s i) (at p s i .command)
+waits p s i = ltb 0 (awaited p s i)
 
 -- What its step does.
 unfoldable pub effect : Program → State → ℕ → Effect
@@ -134,6 +140,19 @@ ready l t s =
     let n = unfit l (numberOf (l .work) t) (programOf t) s in
     let members = bitsBelow 64 (canStep (programOf t) s) in
     record { set = cond (eqb n 0) members 0; number = n }
+
+-- How many activities activity i waits for: the call tries 1 to 15, "an activity that doesn't wait" and a call that is turned down having 0.
+unfoldable pub awaitedNumber : Limits → List ℕ → State → ℕ → ℕ
+awaitedNumber l t s i =
+    let n = unfit l (numberOf (l .work) t) (programOf t) s in
+    let r = refusal (programOf t) s i in
+    cond (eqb n 0) (cond (eqb r 16) 0 r) n
+
+unfoldable pub awaitedCount : Limits → List ℕ → State → ℕ → ℕ
+awaitedCount l t s i =
+    let n = unfit l (numberOf (l .work) t) (programOf t) s in
+    let count = awaited (programOf t) s i in
+    cond (eqb n 0) count 0
 
 -- "sixty-four rows of sixteen entries, by activity and clock number: 0 not held, 1 live, 2 quiesced"
 unfoldable pub registrationOn : ℕ → List Hold → ℕ

@@ -1,4 +1,4 @@
--- Whom an activity waits for, as a set. It waits if the set is not empty and its command meets no fault: "Faults come before waiting."
+-- Whom an activity waits for, as a set, and how many they are.
 use Prim.Native.Nat.{ℕ}
 use mathlib.Core.Bool.{Bool, false, _&&_, not}
 use Rattle.program.specs.declared.command.Command.{Command}
@@ -6,7 +6,7 @@ use Rattle.program.specs.declared.command.Command.the-variants.{End, Next, Cloc
 use Rattle.program.specs.Bodies.{Program}
 use Rattle.rules.specs.declared.state.Activity.{Activity}
 use Rattle.rules.specs.declared.state.State.{State}
-use Rattle.rules.specs.Search.{someBelow}
+use Rattle.rules.specs.Search.{someBelow, countBelow}
 use Rattle.rules.specs.State.{top, hold, ended, isAtBarrier}
 use Rattle.rules.specs.Clocks.{holds, behind}
 use Rattle.rules.specs.Tree.{inFinishBody, descends, inside}
@@ -43,6 +43,7 @@ waitsFor p s i a (Store d) x = false
 waitsFor p s i a (Add d) x = false
 waitsFor p s i a (Atom k) x = false
 
--- The set is not empty.
-unfoldable pub waitsAt : Program → State → ℕ → Activity → Command → Bool
-waitsAt p s i a c = someBelow (s .activities) (waitsFor p s i a c)
+-- "The waiting test shall give a number in place of a yes or no: the different activities behind at a meeting, those inside a finish not ended, or the descendants
+-- not ended."
+unfoldable pub awaitedAt : Program → State → ℕ → Activity → Command → ℕ
+awaitedAt p s i a c = countBelow (s .activities) (waitsFor p s i a c)
