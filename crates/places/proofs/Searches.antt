@@ -1,12 +1,12 @@
--- Laws of searches: one turn of a loop, two searches over the same, a search that a test guards, and the order of two searches.
+-- Laws of searches: one turn of a loop, two searches over the same, and the order of two searches.
 use Prim.Native.Nat.{ℕ, zero, suc, _+_, _≤_, _<_}
 use native.Mathlib.Omega.{arith}
 use native.Mathlib.Numerals.{add-one}
 use mathlib.Core.Path.{_≡_, refl, sym, _∙_}
 use mathlib.Core.Bool.{Bool, true, false, _&&_}
 use Rattle.rules.specs.Search.{someBelow}
-use Rattle.rules.proofs.Tests.{true-false, and-true, and-intro}
-use Rattle.rules.proofs.Search.{someBelow-witness, someBelow-intro, someBelow-all}
+use Rattle.rules.proofs.Tests.{and-true, and-intro}
+use Rattle.rules.proofs.Search.{someBelow-witness, someBelow-intro}
 
 -- A search by a loop over f: it stops at k, goes on past k, or comes to the end.
 module _ (f : ℕ → Bool) (k : ℕ) where
@@ -31,18 +31,6 @@ pub some-alike : (n : ℕ) (f g : ℕ → Bool) → ((k : ℕ) → k < n → f k
 unfolding someBelow
 some-alike zero f g h = refl
 some-alike (suc n) f g h = rw (h n (omega arith), some-alike n f g (λ k m. h k (omega arith)))
-
--- Nobody is waited for.
-pub nobody-waited : (n : ℕ) (f : ℕ → Bool) → ((x : ℕ) → f x ≡ false) → someBelow n f ≡ false
-nobody-waited n f h = someBelow-all n f (λ k l e. true-false (f k) e (h k))
-
--- A test that all share, r, and the search that it guards.
-module _ (n : ℕ) (f g : ℕ → Bool) {b r : Bool} (shared : (x : ℕ) → f x ≡ b && g x) (tested : r ≡ b) where
-  pub guard-shut : r ≡ false → false ≡ someBelow n f
-  guard-shut e = sym (nobody-waited n f (λ x. shared x ∙ rw (sym tested ∙ e)))
-
-  pub guard-open : {q : Bool} → r ≡ true → q ≡ someBelow n g → q ≡ someBelow n f
-  guard-open e h = h ∙ sym (some-alike n f g (λ k l. shared k ∙ rw (sym tested ∙ e)))
 
 -- own clocks first, or activities first
 pub someBelow-swap : (n m : ℕ) (f : ℕ → Bool) (g : ℕ → ℕ → Bool) → someBelow m (λ k. f k && someBelow n (g k)) ≡ someBelow n (λ x. someBelow m (λ k. f k && g k x))

@@ -1,13 +1,13 @@
--- Who is inside a finish, found in lent bytes.
+-- How many inside a finish have not ended, counted in lent bytes.
 use Prim.Native.Nat.{ℕ, zero, suc, _+_, _*_, _≤_, _<_}
 use native.Mathlib.Omega.{arith}
 use mathlib.Core.Path.{_≡_, refl, sym, ap, _∙_}
 use mathlib.Core.List.{List}
 use mathlib.Core.Logic.{_⊎_, inl, inr}
 use mathlib.Core.Bool.{Bool, true, false, _||_, _&&_, not}
-use lib.ListN.{getD, set, replicate, length-replicate, getD-replicate}
+use lib.ListN.{getD, set, replicate}
 use lib.Dec.{ltb, leb, eqb}
-use borrow.Author.Tests.{ltb-true, ltb-false, leb-true, le-leb, not-true, not-false}
+use borrow.Author.Tests.{ltb-true, ltb-false, leb-true, le-leb}
 use Rattle.rules.specs.declared.state.Status.{Status}
 use Rattle.rules.specs.declared.state.Status.the-variants.{Running, AtBarrier, Ended, Faulted}
 use Rattle.rules.specs.declared.state.Activity.{Activity}
@@ -15,12 +15,10 @@ use Rattle.rules.specs.declared.state.State.{State}
 use Rattle.rules.specs.State.{act, isEnded, ended}
 use Rattle.rules.specs.Search.{chain}
 use Rattle.rules.specs.Tree.{spawnerOf, inside}
-use Rattle.rules.specs.Waiting.{unendedInside}
 use Rattle.rules.proofs.Tests.{decide, true-false, and-true, or-true}
-use Rattle.rules.proofs.Search.{someBelow-all, chain-above}
 use Rattle.encoding.specs.Encode.{statusByte}
 use Rattle.places.specs.Rooted.{Rooted}
-use Rattle.places.proofs.Chains.{Passed, joined, passed-on, passed-hit, passed-ended, passed-outside, passed-end, none-above}
+use Rattle.places.proofs.Chains.{Passed, outside, none-above, joined, passed-outside, passed-ended, passed-unended, passed-none, inside-none, passed-all}
 use Rattle.fields.specs.Lent.{Lent, Gets, Reads, ReadsAct}
 use Rattle.fields.proofs.Stands.{own-number}
 use Rattle.fields.proofs.Own.{status-byte}
@@ -47,15 +45,6 @@ and-right true = refl
 and-right false = refl
 
 -- NOBODY WHO IS TOO LOW
-
--- Nobody up to the owner is inside.
-outside : (s : State) (w first x : ℕ) → x ≤ w → inside s w first x ≡ false
-unfolding inside
-outside s w first x h = go (decide (inside s w first x))
-  where
-    go : (inside s w first x ≡ true) ⊎ (inside s w first x ≡ false) → inside s w first x ≡ false
-    go (inl e) = let l = chain-above (spawnerOf s) (leb first) w 64 x e in absurd (let z : ⊥ = omega arith in z)
-    go (inr e) = e
 
 -- The last link of a chain to the owner is not lower than `first`, so neither is its start.
 chain-from : (sp : ℕ → ℕ) (n : ℕ) → ((y : ℕ) → 0 < y → y < n → sp y < y) → (first w f x : ℕ) → x < n → chain sp (leb first) w f x ≡ true → first ≤ x
@@ -89,54 +78,44 @@ none-low s r w first n b x m h = go (decide (ltb w x))
 
 -- THE PASS
 
--- Those below x are passed.
-pub record InsideTo (b : List ℕ) (w first : ℕ) (marks : List Bool) (x : ℕ) : Type 0 where
-  pub passed : (s : State) → Lent b s → Rooted s → Passed s w first marks x
+-- Those below x are passed, and so many of them counted.
+pub record InsideTo (b : List ℕ) (w first : ℕ) (marks : List Bool) (count x : ℕ) : Type 0 where
+  pub few : count ≤ x
+  pub passed : (s : State) → Lent b s → Rooted s → Passed s w first marks count x
 
-module _ {b : List ℕ} {w first made : ℕ} (count : Reads (λ (s : State). s .activities) b made) where
+module _ {b : List ℕ} {w first made : ℕ} (made-of : Reads (λ (s : State). s .activities) b made) where
   -- more activities than there can be
-  pub too-many : {r : Bool} → 64 < made → Inside b w first r
-  too-many h = record { sees = λ s l k. let e = count .reads s l in let f = k .few in absurd (let z : ⊥ = omega arith in z) }
+  pub too-many : {r : ℕ} → 64 < made → Inside b w first r
+  too-many h = record { sees = λ s l k. let e = made-of .reads s l in let f = k .few in absurd (let z : ⊥ = omega arith in z) }
 
   -- nobody is above the owner
-  pub nobody-above : made ≤ w → Inside b w first false
-  nobody-above h = record { sees = λ s l k. let e = count .reads s l in sym (none-above s w first (omega arith)) }
+  pub nobody-above : made ≤ w → Inside b w first 0
+  nobody-above h = record { sees = λ s l k. let e = made-of .reads s l in sym (none-above s w first (omega arith)) }
 
-  -- nobody reaches the lowest number
-  pub nobody-inside : {n : ℕ} → Lowest w first n → made ≤ n → Inside b w first false
-  nobody-inside {n} q h = record {
-    sees =
-        λ s l k.
-        let e = count .reads s l in
-        sym
-        (someBelow-all (s .activities) (unendedInside s w first)
-        (λ x m t. true-false (unendedInside s w first x) t (passed-outside s w first x refl (none-low s k w first n q x m (omega arith)))));
-  }
+  module _ {n : ℕ} (q : Lowest w first n) where
+    -- nobody reaches the lowest number
+    pub nobody-inside : made ≤ n → Inside b w first 0
+    nobody-inside h = record {
+      sees = λ s l k. let e = made-of .reads s l in inside-none s w first (λ x m. none-low s k w first n q x m (omega arith));
+    }
 
-  pub inside-yet : {n : ℕ} → Lowest w first n → n < made → InsideTo b w first (replicate 64 false) n
-  inside-yet {n} q h = record {
-    passed =
-        λ s l k.
-        let e = count .reads s l in
-        let f = k .few in
-        record {
-          sized = length-replicate 64 false;
-          marked = λ x g. getD-replicate 64 x false false (omega arith) ∙ sym (none-low s k w first n q x (omega arith) g);
-          none = λ x g. passed-outside s w first x refl (none-low s k w first n q x (omega arith) g);
-        };
-  }
+    pub inside-yet : n < made → InsideTo b w first (replicate 64 false) 0 n
+    inside-yet h = record {
+      few = omega arith;
+      passed = λ s l k. let e = made-of .reads s l in let f = k .few in passed-none s w first n (λ x g. none-low s k w first n q x (omega arith) g) (omega arith);
+    }
 
-  module _ {marks : List Bool} {x : ℕ} (p : InsideTo b w first marks x) where
-    pub inside-end : made ≤ x → Inside b w first false
-    inside-end h = record { sees = λ s l k. let e = count .reads s l in sym (passed-end s w first (p .passed s l k) (omega arith)) }
+  module _ {marks : List Bool} {count x : ℕ} (p : InsideTo b w first marks count x) where
+    pub inside-end : x ≤ made → made ≤ x → Inside b w first count
+    inside-end g h = record { sees = λ s l k. let e = made-of .reads s l in passed-all s w first (p .passed s l k) (omega arith) (omega arith) }
 
     module _ (above : w < x) (from : first ≤ x) (below : x < made) {y : ℕ} (spawner : ReadsAct (λ (a : Activity). a .spawner) b x y) where
       -- not lower than its child
-      pub not-lower : x ≤ y → Inside b w first false
+      pub not-lower : {r : ℕ} → x ≤ y → Inside b w first r
       not-lower h = record {
         sees =
             λ s l k.
-            let e = count .reads s l in
+            let e = made-of .reads s l in
             let f = k .few in
             let d = k .falls x (omega arith) (omega arith) in
             let q = spawner .reads s l (omega arith) in
@@ -144,38 +123,34 @@ module _ {b : List ℕ} {w first made : ℕ} (count : Reads (λ (s : State). s .
       }
 
       module _ {r : Bool} (join : r ≡ eqb y w || getD marks y false) where
+        there : (s : State) → Lent b s → x < s .activities
+        there s l = let e = made-of .reads s l in omega arith
+
         is-inside : (s : State) → Lent b s → Rooted s → r ≡ inside s w first x
         is-inside s l k =
-            let e = count .reads s l in
             let f = k .few in
+            let m = there s l in
             let q : y ≡ spawnerOf s x = spawner .reads s l (omega arith) in
-            joined s k w first (p .passed s l k) above (omega arith)
-            (join ∙ rw (q, le-leb first x from, and-right (eqb (spawnerOf s x) w)))
+            joined s k w first (p .passed s l k) above m (join ∙ rw (q, le-leb first x from, and-right (eqb (spawnerOf s x) w)))
 
-        pub inside-out : r ≡ false → InsideTo b w first (set marks x r) (x + 1)
+        pub inside-out : r ≡ false → InsideTo b w first (set marks x r) count (x + 1)
         inside-out n = record {
-          passed =
-              λ s l k.
-              let e = count .reads s l in
-              passed-on s k w first (p .passed s l k) above (omega arith) (is-inside s l k) (passed-outside s w first x (is-inside s l k) n);
+          few = let f = p .few in omega arith;
+          passed = λ s l k. passed-outside s k w first (p .passed s l k) above (there s l) (is-inside s l k) n;
         }
 
         module _ (i : r ≡ true) {u : Bool} (looked : ReadsAct isUnended b x u) where
           looks : (s : State) → Lent b s → Rooted s → u ≡ not (ended s x)
-          looks s l k = let e = count .reads s l in let f = k .few in looked .reads s l (omega arith)
+          looks s l k = let f = k .few in let m = there s l in looked .reads s l (omega arith)
 
-          pub inside-ended : u ≡ false → InsideTo b w first (set marks x r) (x + 1)
+          pub inside-ended : u ≡ false → InsideTo b w first (set marks x r) count (x + 1)
           inside-ended n = record {
-            passed =
-                λ s l k.
-                let e = count .reads s l in
-                passed-on s k w first (p .passed s l k) above (omega arith) (is-inside s l k) (passed-ended s w first x (not-false (ended s x) (sym (looks s l k) ∙ n)));
+            few = let f = p .few in omega arith;
+            passed = λ s l k. passed-ended s k w first (p .passed s l k) above (there s l) (is-inside s l k) i (looks s l k) n;
           }
 
-          pub inside-unended : u ≡ true → Inside b w first true
+          pub inside-unended : u ≡ true → InsideTo b w first (set marks x r) (count + 1) (x + 1)
           inside-unended n = record {
-            sees =
-                λ s l k.
-                let e = count .reads s l in
-                sym (passed-hit s k w first (p .passed s l k) above (omega arith) (sym (is-inside s l k) ∙ i) (not-true (ended s x) (sym (looks s l k) ∙ n)));
+            few = let f = p .few in omega arith;
+            passed = λ s l k. passed-unended s k w first (p .passed s l k) above (there s l) (is-inside s l k) i (looks s l k) n;
           }

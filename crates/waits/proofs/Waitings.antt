@@ -1,9 +1,9 @@
--- Who waits, by the command: END of a FINISH body, who is at a meeting, READ and RESET.
+-- How many are waited for, by the command: END of a FINISH body, who is at a meeting, READ and RESET.
 use Prim.Native.Nat.{ℕ, _-_, _≤_, _<_}
 use native.Mathlib.Omega.{arith}
 use mathlib.Core.Path.{_≡_, refl, sym, ap, _∙_, subst}
 use mathlib.Core.List.{List, [], _∷_}
-use mathlib.Core.Bool.{Bool, true, false, _&&_}
+use mathlib.Core.Bool.{Bool, true, false, cond}
 use lib.Dec.{eqb}
 use borrow.Author.Tests.{lt-ltb, le-ltb, eq-eqb, ne-eqb}
 use types.Run.{OneOf, miss}
@@ -18,32 +18,33 @@ use Rattle.rules.specs.declared.state.Status.{Status}
 use Rattle.rules.specs.declared.state.Frame.{Frame}
 use Rattle.rules.specs.declared.state.Activity.{Activity}
 use Rattle.rules.specs.declared.state.State.{State}
-use Rattle.rules.specs.Search.{someBelow}
+use Rattle.rules.specs.Search.{countBelow}
 use Rattle.rules.specs.State.{act, frame, top, bound, isAtBarrier}
 use Rattle.rules.specs.Tree.{here, isFinish, finishes, inFinishBody}
 use Rattle.rules.specs.WellFormed.{isPlaced, wellFormed}
 use Rattle.rules.specs.Faults.{readFault, faultFor}
 use Rattle.rules.specs.Effects.{envOf}
-use Rattle.rules.specs.Waiting.{behindOf, unendedBelow, unendedInside, waitsFor, waitsAt}
-use Rattle.rules.specs.Steps.{at, fault, waits}
+use Rattle.rules.specs.Waiting.{behindOf, unendedBelow, unendedInside, waitsFor, awaitedAt}
+use Rattle.rules.specs.Steps.{at, fault, awaited}
+use Rattle.rules.proofs.Counting.{count-none, guard-shut, guard-open}
+use Rattle.rules.proofs.Awaited.{awaited-live}
 use Rattle.rules.proofs.WellFormedFacts.{Facts, facts}
 use Rattle.places.specs.Known.{Known}
 use Rattle.places.specs.Rooted.{Placed}
 use Rattle.places.specs.Known.{Fit}
 use Rattle.places.proofs.Chains.{unended-below}
-use Rattle.places.proofs.Searches.{nobody-waited, guard-shut, guard-open}
 use Rattle.places.proofs.Roots.{placed, rooted}
 use Rattle.fields.specs.Lent.{Lent, ReadsAct}
 use Rattle.moves.proofs.Ranges.{ranged-at}
 use Rattle.moves.specs.Moves.{ReadFault}
-use Rattle.waits.specs.Waits.{Inside, Behind, EndWaits, NextWaits, OwnWaits, Waits}
+use Rattle.waits.specs.Waits.{Clocked, Gone, Inside, Behind, EndAwaits, NextAwaits, OwnAwaits, Awaits}
 
 -- END
 
 module _ {t starts b : List ℕ} {i x d : ℕ} (depth : ReadsAct (λ (a : Activity). a .depth) b i x) (same : d ≡ x) where
   -- a stack of one body has none below it
-  pub end-alone : d ≤ 1 → EndWaits t starts b i false
-  unfolding waitsAt waitsFor inFinishBody
+  pub end-alone : d ≤ 1 → EndAwaits t starts b i 0
+  unfolding awaitedAt waitsFor inFinishBody
   end-alone h = record {
     tells =
         λ s l j k.
@@ -66,8 +67,8 @@ module _ {t starts b : List ℕ} {i x d : ℕ} (depth : ReadsAct (λ (a : Activi
         let on : isPlaced (programOf t) y ≡ true = rw f (k .stack .placed (a .depth - 2) (omega arith)) in
         rw (lt-ltb 1 (a .depth) (omega arith)) (runs (k .known) on ∙ ap (λ (z : Frame). isFinish (here (programOf t) z .command)) f)
 
-    pub end-elsewhere : q ≡ false → EndWaits t starts b i false
-    unfolding waitsAt waitsFor
+    pub end-elsewhere : q ≡ false → EndAwaits t starts b i 0
+    unfolding awaitedAt waitsFor
     end-elsewhere n = record {
       tells =
           λ s l j k.
@@ -75,9 +76,9 @@ module _ {t starts b : List ℕ} {i x d : ℕ} (depth : ReadsAct (λ (a : Activi
           guard-shut (s .activities) (waitsFor (programOf t) s i a End) (unendedInside s i (top a .first)) (λ n. refl) (in-finish s l j k) n;
     }
 
-    pub end-inside : {z : Frame} {first : ℕ} {r : Bool} → q ≡ true → (d - 1 < 16 → ReadsAct (λ (a : Activity). frame a (d - 1)) b i z) → first ≡ z .first → Inside b i first r
-        → EndWaits t starts b i r
-    unfolding waitsAt waitsFor
+    pub end-inside : {z : Frame} {first r : ℕ} → q ≡ true → (d - 1 < 16 → ReadsAct (λ (a : Activity). frame a (d - 1)) b i z) → first ≡ z .first → Inside b i first r
+        → EndAwaits t starts b i r
+    unfolding awaitedAt waitsFor
     end-inside {first = first} {r = r} n own from g = record {
       tells =
           λ s l j k.
@@ -86,7 +87,7 @@ module _ {t starts b : List ℕ} {i x d : ℕ} (depth : ReadsAct (λ (a : Activi
           let few = k .stack .few in
           let f : first ≡ top a .first = from ∙ ap (λ (u : Frame). u .first) (own (omega arith) .reads s l j ∙ ap (λ (m : ℕ). frame a (m - 1)) e) in
           guard-open (s .activities) (waitsFor (programOf t) s i a End) (unendedInside s i (top a .first)) (λ n. refl) (in-finish s l j k) n
-          (subst (λ (m : ℕ). r ≡ someBelow (s .activities) (unendedInside s i m)) f (g .sees s l (k .rooted)));
+          (subst (λ (m : ℕ). r ≡ countBelow (s .activities) (unendedInside s i m)) f (g .sees s l (k .rooted)));
     }
 
 -- NEXT
@@ -95,25 +96,25 @@ module _ {b : List ℕ} {i : ℕ} {x : Status} {q : Bool} (status : ReadsAct (λ
   at-barrier : (s : State) → Lent b s → i < 64 → q ≡ isAtBarrier (act s i .status)
   at-barrier s l j = test ∙ ap isAtBarrier (status .reads s l j)
 
-  pub next-elsewhere : q ≡ false → NextWaits b i false
-  unfolding waitsAt waitsFor
+  pub next-elsewhere : q ≡ false → NextAwaits b i 0
+  unfolding awaitedAt waitsFor
   next-elsewhere n = record {
-    tells = λ p s l j k. guard-shut (s .activities) (waitsFor p s i (act s i) Next) (behindOf s (act s i)) (λ n. refl) (at-barrier s l j) n;
+    tells = λ p s l j k o. guard-shut (s .activities) (waitsFor p s i (act s i) Next) (behindOf s (act s i)) (λ n. refl) (at-barrier s l j) n;
   }
 
-  pub next-behind : {r : Bool} → q ≡ true → Behind b i r → NextWaits b i r
-  unfolding waitsAt waitsFor
+  pub next-behind : {r : ℕ} → q ≡ true → Behind b i r → NextAwaits b i r
+  unfolding awaitedAt waitsFor
   next-behind n g = record {
-    tells = λ p s l j k. guard-open (s .activities) (waitsFor p s i (act s i) Next) (behindOf s (act s i)) (λ n. refl) (at-barrier s l j) n (g .sees s l j (k .few));
+    tells = λ p s l j k o. guard-open (s .activities) (waitsFor p s i (act s i) Next) (behindOf s (act s i)) (λ n. refl) (at-barrier s l j) n (g .sees s l j k o);
   }
 
 -- READ AND RESET
 
 module _ {b : List ℕ} {i n f : ℕ} (meets : ReadFault b i n f) where
-  pub own-faulty : (f ≡ 0 → ⊥) → OwnWaits n b i false
+  pub own-faulty : (f ≡ 0 → ⊥) → OwnAwaits n b i 0
   own-faulty h = record { tells = λ s l j m k. rw (ne-eqb (readFault (envOf s) i (act s i) n) 0 (λ z. h (meets .reads s l j m ∙ z))) }
 
-  pub own-inside : {r : Bool} → f ≡ 0 → Inside b i 0 r → OwnWaits n b i r
+  pub own-inside : {r : ℕ} → f ≡ 0 → Inside b i 0 r → OwnAwaits n b i r
   own-inside h g = record {
     tells = λ s l j m k. rw (eq-eqb (readFault (envOf s) i (act s i) n) 0 (sym (meets .reads s l j m) ∙ h)) (g .sees s l k ∙ sym (unended-below s i));
   }
@@ -144,10 +145,6 @@ other-waits p s i a (Store d) h x = refl
 other-waits p s i a (Add d) h x = refl
 other-waits p s i a (Atom k) h x = refl
 
-and-false : (b : Bool) → b && false ≡ false
-and-false true = refl
-and-false false = refl
-
 -- what a well-formed state gives
 fit-of : {t starts : List ℕ} {s : State} → Known t starts → wellFormed 65535 (programOf t) s ≡ true → Fit t starts s
 fit-of k w = record { known = k; formed = w }
@@ -162,42 +159,64 @@ module _ {t starts : List ℕ} {s : State} (f : Fit t starts s) {i : ℕ} (m : i
   bound-of : {n : ℕ} → n < 8 → bound (act s i) n ≤ 16
   bound-of {n} h = let x = fact .spawned i m .bounds n h in let y = fact .accs16 in omega arith
 
-own-tells : {t starts b : List ℕ} {s : State} {i n y : ℕ} {r : Bool} → y ≡ n → (y < 8 → OwnWaits y b i r) → Lent b s → Fit t starts s → i < s .activities → n < 8
-    → r ≡ eqb (readFault (envOf s) i (act s i) n) 0 && someBelow (s .activities) (unendedBelow s i)
+  -- the clocks that it holds
+  clocked-of : Clocked (act s i)
+  clocked-of = record {
+    numbers = λ k h e. let q = fact .spawned i m .held .fits k h .known e in let n = fact .clocks16 in omega arith;
+    distinct = fact .spawned i m .held .distinct;
+  }
+
+own-tells : {t starts b : List ℕ} {s : State} {i n y r : ℕ} → y ≡ n → (y < 8 → OwnAwaits y b i r) → Lent b s → Fit t starts s → i < s .activities → n < 8
+    → r ≡ cond (eqb (readFault (envOf s) i (act s i) n) 0) (countBelow (s .activities) (unendedBelow s i)) 0
 own-tells {s = s} same g l f m h = let own = rw same at g in own h .tells s l (few-of f m) (bound-of f m h) (rooted f)
 
+gone-of : {t starts : List ℕ} {s : State} → Fit t starts s → Gone s
+gone-of {t} {s = s} f =
+    let x = facts 65535 (programOf t) s (f .formed) in
+    record { few = x .acts64; free = λ y k h e l. x .spawned y h .gone e .1 k l }
+
 module _ {t starts b : List ℕ} {i : ℕ} {c : Command} where
-  pub waits-end : {r : Bool} → c ≡ End → EndWaits t starts b i r → Waits t starts c b i r
-  unfolding waits fault faultFor
-  waits-end e g = record {
-    tells = λ k s l w m u a. let f = fit-of k w in rw (a ∙ e) (g .tells s l (few-of f m) (placed f m u));
+  pub awaits-end : {r : ℕ} → c ≡ End → EndAwaits t starts b i r → Awaits t starts c b i r
+  unfolding fault faultFor
+  awaits-end e g = record {
+    tells = λ k s l w m u a. let f = fit-of k w in rw (awaited-live (programOf t) s i m u, a ∙ e) (g .tells s l (few-of f m) (placed f m u));
   }
 
-  pub waits-next : {r : Bool} → c ≡ Next → NextWaits b i r → Waits t starts c b i r
-  unfolding waits fault faultFor
-  waits-next e g = record {
-    tells = λ k s l w m u a. let f = fit-of k w in rw (a ∙ e) (g .tells (programOf t) s l (few-of f m) (rooted f));
+  pub awaits-next : {r : ℕ} → c ≡ Next → NextAwaits b i r → Awaits t starts c b i r
+  unfolding fault faultFor
+  awaits-next e g = record {
+    tells = λ k s l w m u a. let f = fit-of k w in rw (awaited-live (programOf t) s i m u, a ∙ e) (g .tells (programOf t) s l (few-of f m) (clocked-of f m) (gone-of f));
   }
 
-  module _ {n y : ℕ} {r : Bool} (same : y ≡ n) (g : y < 8 → OwnWaits y b i r) where
-    pub waits-read : c ≡ Read n → Waits t starts c b i r
-    unfolding waits fault faultFor waitsAt waitsFor
-    waits-read e = record {
-      tells = λ k s l w m u a. let f = fit-of k w in rw (a ∙ e) (own-tells same g l f m (within (Read n) (subst Ranged (a ∙ e) (ranged-at s (f .known) (f .formed) m u))));
+  module _ {n y r : ℕ} (same : y ≡ n) (g : y < 8 → OwnAwaits y b i r) where
+    pub awaits-read : c ≡ Read n → Awaits t starts c b i r
+    unfolding fault faultFor awaitedAt waitsFor
+    awaits-read e = record {
+      tells =
+          λ k s l w m u a.
+          let f = fit-of k w in
+          rw (awaited-live (programOf t) s i m u, a ∙ e) (own-tells same g l f m (within (Read n) (subst Ranged (a ∙ e) (ranged-at s (f .known) (f .formed) m u))));
     }
 
-    pub waits-reset : c ≡ Reset n → Waits t starts c b i r
-    unfolding waits fault faultFor waitsAt waitsFor
-    waits-reset e = record {
-      tells = λ k s l w m u a. let f = fit-of k w in rw (a ∙ e) (own-tells same g l f m (within (Reset n) (subst Ranged (a ∙ e) (ranged-at s (f .known) (f .formed) m u))));
+    pub awaits-reset : c ≡ Reset n → Awaits t starts c b i r
+    unfolding fault faultFor awaitedAt waitsFor
+    awaits-reset e = record {
+      tells =
+          λ k s l w m u a.
+          let f = fit-of k w in
+          rw (awaited-live (programOf t) s i m u, a ∙ e) (own-tells same g l f m (within (Reset n) (subst Ranged (a ∙ e) (ranged-at s (f .known) (f .formed) m u))));
     }
 
-pub waits-other : {t starts b : List ℕ} {i : ℕ} (c : Command) → OneOf others (tagOf the-type c) → Waits t starts c b i false
-unfolding waits waitsAt
-waits-other {t} {i = i} c h = record {
+cond-same : (b : Bool) → _≡_ {A = ℕ} 0 (cond b 0 0)
+cond-same true = refl
+cond-same false = refl
+
+pub awaits-other : {t starts b : List ℕ} {i : ℕ} (c : Command) → OneOf others (tagOf the-type c) → Awaits t starts c b i 0
+unfolding awaitedAt
+awaits-other {t} {i = i} c h = record {
   tells =
       λ k s l w m u a.
       let p = programOf t in
-      let q : someBelow (s .activities) (waitsFor p s i (act s i) c) ≡ false = nobody-waited (s .activities) (waitsFor p s i (act s i) c) (other-waits p s i (act s i) c h) in
-      rw (a, q, and-false (eqb (fault p s i) 0));
+      let q : countBelow (s .activities) (waitsFor p s i (act s i) c) ≡ 0 = count-none (s .activities) (waitsFor p s i (act s i) c) (λ x g. other-waits p s i (act s i) c h x) in
+      rw (awaited-live p s i m u, a, q) (cond-same (eqb (fault p s i) 0));
 }

@@ -1,78 +1,81 @@
-// Passing waits for a holder of an own clock that is behind.
+// Passing waits for the activities that are behind on an own clock.
 ghost use mathlib.Core.Path.{_≡_};
 ghost use lib.ListN.{length};
-ghost use Rattle.waits.specs.Waits.{BehindIn, BehindOne, Behind};
-use fields::bytes::wide;
+ghost use Rattle.waits.specs.Waits.{OwnPlaces, Late, Behind};
+use super::inside::is_unended;
 use fields::counts::activities_of;
 use fields::holds::hold_at;
 use parts::checks::is_held;
+use program::command::wide;
 
-// Whether the clock name in these 8 bytes keeps the phase of the clock from being quiescent.
-fn is_behind(hold: &[u8], clock: u8, phase: u16) -> bool
-    requires { ⌜ length (now hold) ≡ 8 ⌝ }
-    ensures { λ r. ⌜ BehindIn clock phase (now (hold .entry)) r ⌝ }
+// The own places by clock number: twice the phase and 2, which is the place of one quiesced in it; 0 for a clock that is not held.
+fn own_places(state: &[u8], i: usize) -> [usize; 16]
+    ensures { λ r. ⌜ OwnPlaces (now (state .entry)) i r ⌝ }
 {
-    let registration = hold[5];
+    let mut own = [0usize; 16];
+    let mut n: usize = 0;
+    while n < 8 {
+        let hold = hold_at(state, i, n);
+        let registration = hold.registration;
+        let clock = hold.clock as usize;
+        let phase = hold.phase as usize;
+        n += 1;
+        if is_held(registration) {
+            if clock < 16 {
+                own[clock] = 2 * phase + 2;
+            }
+        }
+    }
+    own
+}
+
+// Whether the clock name in these 8 bytes has a place below the own one: twice its phase, and 1 where live, 2 where quiesced.
+fn is_late(hold: &[u8], own: &[usize]) -> bool
+    requires { ⌜ length (now hold) ≡ 8 ⌝ }
+    requires { ⌜ length (now own) ≡ 16 ⌝ }
+    ensures { λ r. ⌜ Late (now (own .entry)) (now (hold .entry)) r ⌝ }
+{
+    let registration = wide(hold[5]);
     if registration == 0 {
         return false;
     }
-    if hold[4] != clock {
+    let clock = wide(hold[4]);
+    if 16 <= clock {
         return false;
     }
-    let own = wide(hold[0]) + 256 * wide(hold[1]);
-    if own < phase {
-        return true;
-    }
-    if own == phase {
-        return registration == 1;
-    }
-    false
+    let phase = wide(hold[0]) + 256 * wide(hold[1]);
+    2 * phase + registration < own[clock]
 }
 
-// Whether one of the eight clock names in these 64 bytes does.
-fn has_behind(holds: &[u8], clock: u8, phase: u16) -> bool
-    requires { ⌜ length (now holds) ≡ 64 ⌝ }
-    ensures { λ r. ⌜ BehindOne clock phase (now (holds .entry)) r ⌝ }
-{
-    let mut k: usize = 0;
-    while k < 8 {
-        let at = 8 * k;
-        if is_behind(&holds[at..at + 8], clock, phase) {
-            return true;
-        }
-        k += 1;
-    }
-    false
-}
-
-// Whether a holder of an own clock is behind: own clock names first, then the activities.
-pub fn someone_behind(state: &[u8], i: usize) -> bool
+// How many activities are behind on an own clock. Each is counted once: the loop over its names is left at the first that is late. One that has ended holds nothing.
+pub fn count_behind(state: &[u8], i: usize) -> u8
     ensures { λ r. ⌜ Behind (now (state .entry)) i r ⌝ }
 {
     if state.len() != 13776 {
-        return false;
+        return 0;
     }
     let made = activities_of(state) as usize;
     if 64 < made {
-        return false;
+        return 0;
     }
-    let mut found = false;
-    let mut n: usize = 0;
-    'clocks: while n < 8 {
-        let own = hold_at(state, i, n);
-        let registration = own.registration;
-        if is_held(registration) {
-            let mut x: usize = 0;
-            while x < made {
-                let at = 480 + 208 * x;
-                if has_behind(&state[at..at + 64], own.clock, own.phase) {
-                    found = true;
-                    break 'clocks;
+    let own = own_places(state, i);
+    let mut count: u8 = 0;
+    let mut x: usize = 0;
+    'holders: while x < made {
+        let holds = 480 + 208 * x;
+        let unended = is_unended(state, x);
+        x += 1;
+        if unended {
+            let mut k: usize = 0;
+            while k < 8 {
+                let at = holds + 8 * k;
+                if is_late(&state[at..at + 8], &own) {
+                    count += 1;
+                    continue 'holders;
                 }
-                x += 1;
+                k += 1;
             }
         }
-        n += 1;
     }
-    found
+    count
 }

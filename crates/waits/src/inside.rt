@@ -31,7 +31,7 @@ fn joins(spawner: usize, w: usize, above: bool) -> bool
 }
 
 // Whether an activity has neither ended nor faulted.
-fn is_unended(state: &[u8], x: usize) -> bool
+pub(crate) fn is_unended(state: &[u8], x: usize) -> bool
     ensures { λ r. ⌜ ReadsAct isUnended (now (state .entry)) x r ⌝ }
 {
     if 64 <= x {
@@ -40,37 +40,38 @@ fn is_unended(state: &[u8], x: usize) -> bool
     get1(state, 468 + 208 * x) < 2
 }
 
-// Whether someone inside has not ended, in one pass upwards: an activity's spawner is lower than it.
-pub fn someone_inside(state: &[u8], w: usize, first: usize) -> bool
+// How many inside have not ended, in one pass upwards: an activity's spawner is lower than it.
+pub fn count_inside(state: &[u8], w: usize, first: usize) -> u8
     ensures { λ r. ⌜ Inside (now (state .entry)) w first r ⌝ }
 {
     let made = activities_of(state) as usize;
     if 64 < made {
-        return false;
+        return 0;
     }
     if made <= w {
-        return false;
+        return 0;
     }
     let start = lowest(w, first);
     if made <= start {
-        return false;
+        return 0;
     }
     let mut inside = [false; 64];
+    let mut count: u8 = 0;
     let mut x = start;
     while x < made {
         let at = x;
         x += 1;
         let spawner = spawner_at(state, at) as usize;
         if at <= spawner {
-            return false;
+            return 0;
         }
         let within = joins(spawner, w, inside[spawner]);
         inside[at] = within;
         if within {
             if is_unended(state, at) {
-                return true;
+                count += 1;
             }
         }
     }
-    false
+    count
 }
