@@ -18,39 +18,48 @@ handed {before} {text} {after} {end} p e =
     ap (take end) (p .bytes ∙ sets-eq text before 0 fits) ∙ take-at text (drop (0 + length text) before) end (sym e)
 
 -- Pages from a line on, joined, are the lines from it on.
-pages-join : (order answers : List ℕ) → length order ≤ length answers → {line : ℕ} {pieces : List (List ℕ)} → line ≤ length order → Pages order answers line pieces
-    → joined pieces ≡ linesBetween order answers line (length order)
+pages-join : (order answers awaited : List ℕ) → length order ≤ length answers → length order ≤ length awaited
+    → {line : ℕ} {pieces : List (List ℕ)} → line ≤ length order → Pages order answers awaited line pieces → joined pieces ≡ linesBetween order answers awaited line (length order)
 unfolding joined
-pages-join order answers room {line} h (over g) =
+pages-join order answers awaited room size {line} h (over g) =
     let last : length order ≡ line = omega arith in
-    sym (between-none order answers line) ∙ ap (linesBetween order answers line) (sym last)
-pages-join order answers room {line} h (page {r = r} {more = rest} p more) =
+    sym (between-none order answers awaited line) ∙ ap (linesBetween order answers awaited line) (sym last)
+pages-join order answers awaited room size {line} h (page {r = r} {more = rest} p more) =
     let within = p .within h in
     ap (λ (l : List ℕ). l ++ joined rest) (handed (p .put) (p .whole))
-    ∙ ap (λ (l : List ℕ). linesBetween order answers line (r .line) ++ l) (pages-join order answers room within more)
-    ∙ sym (between-join order answers line (r .line) (length order) (p .onward) within within (omega arith))
+    ∙ ap (λ (l : List ℕ). linesBetween order answers awaited line (r .line) ++ l) (pages-join order answers awaited room size within more)
+    ∙ sym (between-join order answers awaited line (r .line) (length order) (p .onward) within within (omega arith) (omega arith))
 
--- Answers past the order make no line.
-lines-take : (n t : ℕ) (order answers : List ℕ) → linesFrom n t order (take (length order) answers) ≡ linesFrom n t order answers
+-- Answers and numbers past the order make no line.
+lines-take : (n t : ℕ) (order answers awaited : List ℕ)
+    → linesFrom n t order (take (length order) answers) (take (length order) awaited) ≡ linesFrom n t order answers awaited
 unfolding linesFrom
-lines-take n t [] answers = refl
-lines-take n t (x ∷ order) [] = refl
-lines-take n t (x ∷ order) (y ∷ answers) = ap (λ (l : List ℕ). lineOf (n + 1) x y (t + stepsOf y) ++ l) (lines-take (n + 1) (t + stepsOf y) order answers)
+lines-take n t [] answers awaited = refl
+lines-take n t (x ∷ order) [] awaited = refl
+lines-take n t (x ∷ order) (y ∷ answers) [] = refl
+lines-take n t (x ∷ order) (y ∷ answers) (z ∷ awaited) =
+    ap (λ (l : List ℕ). lineOf (n + 1) x y (t + stepsOf y) z ++ l) (lines-take (n + 1) (t + stepsOf y) order answers awaited)
 
 -- All lines.
-between-all : (order answers : List ℕ) → linesBetween order answers 0 (length order) ≡ linesFrom 0 0 order answers
+between-all : (order answers awaited : List ℕ) → linesBetween order answers awaited 0 (length order) ≡ linesFrom 0 0 order answers awaited
 unfolding linesBetween stepsIn
-between-all order answers = ap (λ (l : List ℕ). linesFrom 0 0 l (take (length order) answers)) (take-all (length order) order (omega arith)) ∙ lines-take 0 0 order answers
+between-all order answers awaited =
+    ap (λ (l : List ℕ). linesFrom 0 0 l (take (length order) answers) (take (length order) awaited)) (take-all (length order) order (omega arith))
+    ∙ lines-take 0 0 order answers awaited
 
 -- The header, the pages and the total are the whole text.
-pub text-whole : (order answers : List ℕ) (work taken ended spawned : ℕ) → length order ≤ length answers → {pieces : List (List ℕ)} → Pages order answers 0 pieces
-    → headerOf ++ joined pieces ++ totalOf work taken ended spawned ≡ walkText order answers work taken ended spawned
+pub text-whole : (order answers awaited : List ℕ) (work taken ended spawned : ℕ) → length order ≤ length answers → length order ≤ length awaited
+    → {pieces : List (List ℕ)} → Pages order answers awaited 0 pieces
+    → headerOf ++ joined pieces ++ totalOf work taken ended spawned ≡ walkText order answers awaited work taken ended spawned
 unfolding walkText
-text-whole order answers work taken ended spawned room pages =
-    ap (λ (l : List ℕ). headerOf ++ l ++ totalOf work taken ended spawned) (pages-join order answers room (omega arith) pages ∙ between-all order answers)
+text-whole order answers awaited work taken ended spawned room size pages =
+    ap (λ (l : List ℕ). headerOf ++ l ++ totalOf work taken ended spawned)
+    (pages-join order answers awaited room size (omega arith) pages ∙ between-all order answers awaited)
 
--- Answers past the order change nothing of it.
-pub text-past : (order answers : List ℕ) (work taken ended spawned : ℕ)
-    → walkText order (take (length order) answers) work taken ended spawned ≡ walkText order answers work taken ended spawned
+-- Answers and numbers past the order change nothing of it.
+pub text-past : (order answers awaited : List ℕ) (work taken ended spawned : ℕ)
+    → walkText order (take (length order) answers) (take (length order) awaited) work taken ended spawned
+    ≡ walkText order answers awaited work taken ended spawned
 unfolding walkText
-text-past order answers work taken ended spawned = ap (λ (l : List ℕ). headerOf ++ l ++ totalOf work taken ended spawned) (lines-take 0 0 order answers)
+text-past order answers awaited work taken ended spawned =
+    ap (λ (l : List ℕ). headerOf ++ l ++ totalOf work taken ended spawned) (lines-take 0 0 order answers awaited)

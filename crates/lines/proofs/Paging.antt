@@ -9,7 +9,7 @@ use borrow.Author.Tests.{ltb-true, ltb-false, lt-ltb, le-ltb, ne-eqb, eq-eqb}
 use lib.Dec.{ltb, eqb}
 use lib.ListN.{length, take, drop, getD, length-append, take-append-drop}
 use lib.Seq.{slice, slice-empty, slice-cons, length-slice, take-suc, take-all, take-take, length-take-le, drop-append-le}
-use Rattle.lines.specs.Text.{lastDigit, digitsOf, decimalOf, lineOf}
+use Rattle.lines.specs.Text.{lastDigit, digitsOf, decimalOf, awaitedOf, lineOf}
 use Rattle.lines.specs.Walk.{stepsOf, stepsIn, linesFrom}
 use Rattle.lines.specs.Put.{Put}
 use Rattle.lines.specs.Paged.{linesBetween, Paged}
@@ -62,18 +62,26 @@ steps-more answers i h =
 -- LINES
 
 -- Lines after lines.
-lines-append : (n t : ℕ) (xs ys xs′ ys′ : List ℕ) → length xs ≡ length ys → linesFrom n t (xs ++ xs′) (ys ++ ys′) ≡ linesFrom n t xs ys ++ linesFrom (n + length xs) (t + stepsIn ys) xs′ ys′
+lines-append : (n t : ℕ) (xs ys zs xs′ ys′ zs′ : List ℕ) → length xs ≡ length ys → length ys ≡ length zs
+    → linesFrom n t (xs ++ xs′) (ys ++ ys′) (zs ++ zs′) ≡ linesFrom n t xs ys zs ++ linesFrom (n + length xs) (t + stepsIn ys) xs′ ys′ zs′
 unfolding linesFrom stepsIn
-lines-append n t [] [] xs′ ys′ e = let a : n ≡ n + 0 = omega arith in let b : t ≡ t + 0 = omega arith in ap (λ (k : ℕ). linesFrom k t xs′ ys′) a ∙ ap (λ (k : ℕ). linesFrom (n + 0) k xs′ ys′) b
-lines-append n t [] (y ∷ ys) xs′ ys′ e = absurd (omega arith)
-lines-append n t (x ∷ xs) [] xs′ ys′ e = absurd (omega arith)
-lines-append n t (x ∷ xs) (y ∷ ys) xs′ ys′ e =
+lines-append n t [] [] [] xs′ ys′ zs′ e d =
+    let a : n ≡ n + 0 = omega arith in
+    let b : t ≡ t + 0 = omega arith in
+    ap (λ (k : ℕ). linesFrom k t xs′ ys′ zs′) a ∙ ap (λ (k : ℕ). linesFrom (n + 0) k xs′ ys′ zs′) b
+lines-append n t [] [] (z ∷ zs) xs′ ys′ zs′ e d = absurd (omega arith)
+lines-append n t [] (y ∷ ys) zs xs′ ys′ zs′ e d = absurd (omega arith)
+lines-append n t (x ∷ xs) [] zs xs′ ys′ zs′ e d = absurd (omega arith)
+lines-append n t (x ∷ xs) (y ∷ ys) [] xs′ ys′ zs′ e d = absurd (omega arith)
+lines-append n t (x ∷ xs) (y ∷ ys) (z ∷ zs) xs′ ys′ zs′ e d =
     let a : n + 1 + length xs ≡ n + suc (length xs) = omega arith in
     let b : t + stepsOf y + stepsIn ys ≡ t + (stepsOf y + stepsIn ys) = omega arith in
-    ap (λ (l : List ℕ). lineOf (n + 1) x y (t + stepsOf y) ++ l) (lines-append (n + 1) (t + stepsOf y) xs ys xs′ ys′ (omega arith))
-    ∙ sym (append-assoc (lineOf (n + 1) x y (t + stepsOf y)) (linesFrom (n + 1) (t + stepsOf y) xs ys) _)
-    ∙ ap (λ (k : ℕ). lineOf (n + 1) x y (t + stepsOf y) ++ linesFrom (n + 1) (t + stepsOf y) xs ys ++ linesFrom k (t + stepsOf y + stepsIn ys) xs′ ys′) a
-    ∙ ap (λ (k : ℕ). lineOf (n + 1) x y (t + stepsOf y) ++ linesFrom (n + 1) (t + stepsOf y) xs ys ++ linesFrom (n + suc (length xs)) k xs′ ys′) b
+    let first = lineOf (n + 1) x y (t + stepsOf y) z in
+    let others = linesFrom (n + 1) (t + stepsOf y) xs ys zs in
+    ap (λ (l : List ℕ). first ++ l) (lines-append (n + 1) (t + stepsOf y) xs ys zs xs′ ys′ zs′ (omega arith) (omega arith))
+    ∙ sym (append-assoc first others _)
+    ∙ ap (λ (k : ℕ). first ++ others ++ linesFrom k (t + stepsOf y + stepsIn ys) xs′ ys′ zs′) a
+    ∙ ap (λ (k : ℕ). first ++ others ++ linesFrom (n + suc (length xs)) k xs′ ys′ zs′) b
 
 -- All answers that count are passed.
 pub all-passed : (answers : List ℕ) (i line : ℕ) → i ≤ line → length answers ≤ i → stepsIn (take i answers) ≡ stepsIn (take line answers)
@@ -95,32 +103,43 @@ steps-join l a b h =
     ∙ ap (λ (r : List ℕ). stepsIn r + stepsIn (slice a b l)) (take-take a b l h)
 
 -- Lines between two numbers are those up to a number between them, and those from there on.
-pub between-join : (order answers : List ℕ) (a b c : ℕ) → a ≤ b → b ≤ c → b ≤ length order → b ≤ length answers
-    → linesBetween order answers a c ≡ linesBetween order answers a b ++ linesBetween order answers b c
+pub between-join : (order answers awaited : List ℕ) (a b c : ℕ) → a ≤ b → b ≤ c → b ≤ length order → b ≤ length answers → b ≤ length awaited
+    → linesBetween order answers awaited a c ≡ linesBetween order answers awaited a b ++ linesBetween order answers awaited b c
 unfolding linesBetween
-between-join order answers a b c h g o p =
+between-join order answers awaited a b c h g o p q =
     let x = length-slice a b order o in
     let y = length-slice a b answers p in
+    let z = length-slice a b awaited q in
     let at : a + length (slice a b order) ≡ b = omega arith in
-    ap (λ (l : List ℕ). linesFrom a (stepsIn (take a answers)) l (slice a c answers)) (slice-join order a b c h g o)
-    ∙ ap (λ (l : List ℕ). linesFrom a (stepsIn (take a answers)) (slice a b order ++ slice b c order) l) (slice-join answers a b c h g p)
-    ∙ lines-append a (stepsIn (take a answers)) (slice a b order) (slice a b answers) (slice b c order) (slice b c answers) (x ∙ sym y)
-    ∙ ap (λ (n : ℕ). linesFrom a (stepsIn (take a answers)) (slice a b order) (slice a b answers) ++ linesFrom n (stepsIn (take a answers) + stepsIn (slice a b answers)) (slice b c order) (slice b c answers)) at
-    ∙ ap (λ (n : ℕ). linesFrom a (stepsIn (take a answers)) (slice a b order) (slice a b answers) ++ linesFrom b n (slice b c order) (slice b c answers)) (sym (steps-join answers a b h))
+    let before = stepsIn (take a answers) in
+    let first = linesFrom a before (slice a b order) (slice a b answers) (slice a b awaited) in
+    ap (λ (l : List ℕ). linesFrom a before l (slice a c answers) (slice a c awaited)) (slice-join order a b c h g o)
+    ∙ ap (λ (l : List ℕ). linesFrom a before (slice a b order ++ slice b c order) l (slice a c awaited)) (slice-join answers a b c h g p)
+    ∙ ap (linesFrom a before (slice a b order ++ slice b c order) (slice a b answers ++ slice b c answers)) (slice-join awaited a b c h g q)
+    ∙ lines-append a before (slice a b order) (slice a b answers) (slice a b awaited) (slice b c order) (slice b c answers) (slice b c awaited)
+    (x ∙ sym y) (y ∙ sym z)
+    ∙ ap (λ (n : ℕ). first ++ linesFrom n (before + stepsIn (slice a b answers)) (slice b c order) (slice b c answers) (slice b c awaited)) at
+    ∙ ap (λ (n : ℕ). first ++ linesFrom b n (slice b c order) (slice b c answers) (slice b c awaited)) (sym (steps-join answers a b h))
 
 -- No line, and one.
-pub between-none : (order answers : List ℕ) (a : ℕ) → linesBetween order answers a a ≡ []
+pub between-none : (order answers awaited : List ℕ) (a : ℕ) → linesBetween order answers awaited a a ≡ []
 unfolding linesBetween linesFrom
-between-none order answers a = rw (slice-empty a order)
+between-none order answers awaited a = rw (slice-empty a order)
 
-between-one : (order answers : List ℕ) (a : ℕ) → a < length order → a < length answers
-    → linesBetween order answers a (a + 1) ≡ lineOf (a + 1) (getD order a 0) (getD answers a 0) (stepsIn (take (a + 1) answers))
+-- The line after so many, with the steps taken by then.
+abbrev lineAt : List ℕ → List ℕ → List ℕ → ℕ → ℕ → List ℕ
+lineAt order answers awaited a taken = lineOf (a + 1) (getD order a 0) (getD answers a 0) taken (getD awaited a 0)
+
+between-one : (order answers awaited : List ℕ) (a : ℕ) → a < length order → a < length answers → a < length awaited
+    → linesBetween order answers awaited a (a + 1) ≡ lineAt order answers awaited a (stepsIn (take (a + 1) answers))
 unfolding linesBetween linesFrom
-between-one order answers a h g =
-    ap (λ (l : List ℕ). linesFrom a (stepsIn (take a answers)) l (slice a (a + 1) answers)) (slice-one order a h)
-    ∙ ap (λ (l : List ℕ). linesFrom a (stepsIn (take a answers)) (getD order a 0 ∷ []) l) (slice-one answers a g)
-    ∙ append-nil (lineOf (a + 1) (getD order a 0) (getD answers a 0) (stepsIn (take a answers) + stepsOf (getD answers a 0)))
-    ∙ ap (lineOf (a + 1) (getD order a 0) (getD answers a 0)) (sym (steps-more answers a g))
+between-one order answers awaited a h g k =
+    let before = stepsIn (take a answers) in
+    ap (λ (l : List ℕ). linesFrom a before l (slice a (a + 1) answers) (slice a (a + 1) awaited)) (slice-one order a h)
+    ∙ ap (λ (l : List ℕ). linesFrom a before (getD order a 0 ∷ []) l (slice a (a + 1) awaited)) (slice-one answers a g)
+    ∙ ap (linesFrom a before (getD order a 0 ∷ []) (getD answers a 0 ∷ [])) (slice-one awaited a k)
+    ∙ append-nil (lineAt order answers awaited a (before + stepsOf (getD answers a 0)))
+    ∙ ap (lineAt order answers awaited a) (sym (steps-more answers a g))
   where
     slice-one : (l : List ℕ) (a : ℕ) → a < length l → slice a (a + 1) l ≡ getD l a 0 ∷ []
     slice-one l a h =
@@ -130,10 +149,11 @@ between-one order answers a h g =
         ap (λ (n : ℕ). slice a n l) e ∙ slice-cons a (suc a) l 0 t u ∙ ap (λ (r : List ℕ). getD l a 0 ∷ r) (slice-empty (suc a) l)
 
 -- A line more.
-pub between-more : (order answers : List ℕ) (a b : ℕ) → a ≤ b → b < length order → b < length answers
-    → linesBetween order answers a (b + 1) ≡ linesBetween order answers a b ++ lineOf (b + 1) (getD order b 0) (getD answers b 0) (stepsIn (take (b + 1) answers))
-between-more order answers a b h o p =
-    between-join order answers a b (b + 1) h (omega arith) (omega arith) (omega arith) ∙ ap (λ (l : List ℕ). linesBetween order answers a b ++ l) (between-one order answers b o p)
+pub between-more : (order answers awaited : List ℕ) (a b : ℕ) → a ≤ b → b < length order → b < length answers → b < length awaited
+    → linesBetween order answers awaited a (b + 1) ≡ linesBetween order answers awaited a b ++ lineAt order answers awaited b (stepsIn (take (b + 1) answers))
+between-more order answers awaited a b h o p q =
+    between-join order answers awaited a b (b + 1) h (omega arith) (omega arith) (omega arith) (omega arith)
+    ∙ ap (λ (l : List ℕ). linesBetween order answers awaited a b ++ l) (between-one order answers awaited b o p q)
 
 -- LENGTHS
 
@@ -155,15 +175,24 @@ decimal-length : (n : ℕ) → n < 18446744073709551616 → length (decimalOf n)
 unfolding decimalOf
 decimal-length n h = digits-length 19 (suc n) n (omega arith)
 
--- A line has at most 84 bytes.
-pub line-length : (line act answer taken : ℕ) → line < 18446744073709551616 → act < 18446744073709551616 → answer < 18446744073709551616
-    → taken < 18446744073709551616 → length (lineOf line act answer taken) ≤ 84
+awaited-length : (answer n : ℕ) → n < 18446744073709551616 → length (awaitedOf answer n) ≤ 21
+unfolding awaitedOf
+awaited-length answer n h = go (eqb answer 16)
+  where
+    go : (b : Bool) → length (cond b (32 ∷ decimalOf n) []) ≤ 21
+    go true = omega (arith, decimal-length n h)
+    go false = omega arith
+
+-- A line has at most 105 bytes.
+pub line-length : (line act answer taken awaited : ℕ) → line < 18446744073709551616 → act < 18446744073709551616 → answer < 18446744073709551616
+    → taken < 18446744073709551616 → awaited < 18446744073709551616 → length (lineOf line act answer taken awaited) ≤ 105
 unfolding lineOf
-line-length line act answer taken a b c d =
-    let w = decimal-length line a in
-    let x = decimal-length act b in
-    let y = decimal-length answer c in
-    let z = decimal-length taken d in
+line-length line act answer taken awaited a b c d e =
+    let v = decimal-length line a in
+    let w = decimal-length act b in
+    let x = decimal-length answer c in
+    let y = decimal-length taken d in
+    let z = awaited-length answer awaited e in
     simp length-append (omega arith)
 
 -- A PAGE UNDER WAY
@@ -175,19 +204,19 @@ steps-below (suc n) [] = omega arith
 steps-below (suc n) (x ∷ l) = let q = steps-below n l in omega (arith, steps-le x)
 
 -- The lines before the next stand at the buffer's start, whole.
-pub record Under (before order answers : List ℕ) (line : ℕ) (out : List ℕ) (taken end next : ℕ) : Type 0 where
-  pub put : Put before 0 (linesBetween order answers line next) out end
-  pub whole : end ≡ length (linesBetween order answers line next)
+pub record Under (before order answers awaited : List ℕ) (line : ℕ) (out : List ℕ) (taken end next : ℕ) : Type 0 where
+  pub put : Put before 0 (linesBetween order answers awaited line next) out end
+  pub whole : end ≡ length (linesBetween order answers awaited line next)
   pub fits : end ≤ length before
   pub onward : line ≤ next
   pub within : line ≤ length order → next ≤ length order
   pub counted : taken ≡ stepsIn (take next answers)
   pub fewer : taken ≤ next
 
-module _ (before order answers : List ℕ) (line : ℕ) where
-  pub under-start : {taken : ℕ} → taken ≡ stepsIn (take line answers) → Under before order answers line before taken 0 line
+module _ (before order answers awaited : List ℕ) (line : ℕ) where
+  pub under-start : {taken : ℕ} → taken ≡ stepsIn (take line answers) → Under before order answers awaited line before taken 0 line
   under-start {taken} e =
-      let nothing = between-none order answers line in
+      let nothing = between-none order answers awaited line in
       let below = steps-below line answers in
       record {
         put = subst (λ (t : List ℕ). Put before 0 t before 0) (sym nothing) none;
@@ -199,20 +228,22 @@ module _ (before order answers : List ℕ) (line : ℕ) where
         fewer = omega arith;
       }
 
-  module _ {out : List ℕ} {taken end next : ℕ} (u : Under before order answers line out taken end next) where
+  module _ {out : List ℕ} {taken end next : ℕ} (u : Under before order answers awaited line out taken end next) where
     -- A line more.
-    pub under-more : {out′ : List ℕ} {steps end′ : ℕ} → next < length order → next < length answers → 128 ≤ length before - end
-        → next + 1 < 18446744073709551616 → getD order next 0 < 256 → getD answers next 0 < 256 → steps ≡ stepsOf (getD answers next 0)
-        → Put out end (lineOf (next + 1) (getD order next 0) (getD answers next 0) (taken + steps)) out′ end′
-        → Under before order answers line out′ (taken + steps) end′ (next + 1)
-    under-more {out′} {steps} {end′} o a room wide act answer e p =
+    pub under-more : {out′ : List ℕ} {steps end′ : ℕ} → next < length order → next < length answers → next < length awaited → 128 ≤ length before - end
+        → next + 1 < 18446744073709551616 → getD order next 0 < 256 → getD answers next 0 < 256 → getD awaited next 0 < 256
+        → steps ≡ stepsOf (getD answers next 0) → Put out end (lineAt order answers awaited next (taken + steps)) out′ end′
+        → Under before order answers awaited line out′ (taken + steps) end′ (next + 1)
+    under-more {out′} {steps} {end′} o a w room wide act answer number e p =
         let sum : taken + steps ≡ stepsIn (take (next + 1) answers) = omega (arith, steps-more answers next a, u .counted) in
         let below = steps-below (next + 1) answers in
-        let text = between-more order answers line next (u .onward) o a in
-        let text′ : linesBetween order answers line (next + 1) ≡ linesBetween order answers line next ++ lineOf (next + 1) (getD order next 0) (getD answers next 0) (taken + steps)
-        = text ∙ ap (λ (n : ℕ). linesBetween order answers line next ++ lineOf (next + 1) (getD order next 0) (getD answers next 0) n) (sym sum) in
-        let small = line-length (next + 1) (getD order next 0) (getD answers next 0) (taken + steps) wide (omega arith) (omega arith) (omega arith) in
-        let long = ap length text′ ∙ length-append (linesBetween order answers line next) (lineOf (next + 1) (getD order next 0) (getD answers next 0) (taken + steps)) in
+        let text = between-more order answers awaited line next (u .onward) o a w in
+        let here = linesBetween order answers awaited line next in
+        let text′ : linesBetween order answers awaited line (next + 1) ≡ here ++ lineAt order answers awaited next (taken + steps)
+        = text ∙ ap (λ (n : ℕ). here ++ lineAt order answers awaited next n) (sym sum) in
+        let small =
+        line-length (next + 1) (getD order next 0) (getD answers next 0) (taken + steps) (getD awaited next 0) wide (omega arith) (omega arith) (omega arith) (omega arith) in
+        let long = ap length text′ ∙ length-append here (lineAt order answers awaited next (taken + steps)) in
         let place = p .place in
         let same = kept (u .put) in
         record {
@@ -226,21 +257,23 @@ module _ (before order answers : List ℕ) (line : ℕ) where
         }
 
     -- Where it stops.
-    pub under-end : (next < length order → next < length answers → length before - end < 128) → Paged before order answers line out (record { end = end; line = next })
+    pub under-end : (next < length order → next < length answers → next < length awaited → length before - end < 128)
+        → Paged before order answers awaited line out (record { end = end; line = next })
     under-end stop =
         record {
           put = u .put;
           whole = u .whole;
           onward = u .onward;
           within = u .within;
-          full = λ o a. omega (arith, stop o a, u .fits);
-          goes = λ o a room. go o a room (ltb line next) refl;
+          full = λ o a w. omega (arith, stop o a w, u .fits);
+          goes = λ o a w room. go o a w room (ltb line next) refl;
         }
       where
-        go : line < length order → line < length answers → 128 ≤ length before → (b : Bool) → ltb line next ≡ b → line < next
-        go o a room true e = ltb-true line next e
-        go o a room false e =
+        go : line < length order → line < length answers → line < length awaited → 128 ≤ length before → (b : Bool) → ltb line next ≡ b → line < next
+        go o a w room true e = ltb-true line next e
+        go o a w room false e =
             let same : next ≡ line = omega (arith, ltb-false line next e, u .onward) in
-            let empty = u .whole ∙ ap (λ (n : ℕ). length (linesBetween order answers line n)) same ∙ ap length (between-none order answers line) in
-            let q = stop (omega arith) (omega arith) in
+            let empty = u .whole ∙ ap (λ (n : ℕ). length (linesBetween order answers awaited line n)) same
+            ∙ ap length (between-none order answers awaited line) in
+            let q = stop (omega arith) (omega arith) (omega arith) in
             absurd (omega arith)

@@ -1,4 +1,4 @@
--- Texts put one after the other, and the digits of a number.
+-- Texts put one after the other, the digits of a number, and the number behind answer 16.
 use Prim.Native.Nat.{ℕ, zero, suc, _+_, _/_, _<_, _≤_}
 use mathlib.Core.Bool.{Bool, true, false, cond}
 use mathlib.Core.Path.{_≡_, refl, sym, ap, _∙_, subst}
@@ -6,12 +6,12 @@ use mathlib.Core.List.{List, [], _∷_, _++_}
 use native.Mathlib.Nat.{add-zero}
 use native.Mathlib.Numerals.{add-one}
 use native.Mathlib.Omega.{arith}
-use borrow.Author.Tests.{leb-true, leb-false, ltb-false, lt-ltb, le-ltb}
+use borrow.Author.Tests.{leb-true, leb-false, ltb-false, lt-ltb, le-ltb, eq-eqb, ne-eqb}
 use lib.Dec.{leb, ltb}
 use lib.ListN.{length, take, getD, set, length-set, length-append}
 use lib.Seq.{sets, length-sets, set-out, take-suc, take-all}
 use Rattle.lines.specs.Put.{Put, placeAfter}
-use Rattle.lines.specs.Text.{lastDigit, digitsOf, decimalOf}
+use Rattle.lines.specs.Text.{lastDigit, digitsOf, decimalOf, awaitedOf}
 
 -- Nothing is written past the end.
 sets-out : (l : List ℕ) (i : ℕ) (vs : List ℕ) → length l ≤ i → sets l i vs ≡ l
@@ -101,3 +101,13 @@ one-digit {l} {l′} {at} {m} {n} {x} h e p = subst (λ (t : List ℕ). Put l at
 
 pub digit-more : {l l′ l″ : List ℕ} {at m k n x : ℕ} → 10 ≤ n → x ≡ lastDigit n → Put l at (decimalOf (n / 10)) l′ m → Put l′ m (x ∷ []) l″ k → Put l at (decimalOf n) l″ k
 digit-more {l} {l′} {l″} {at} {m} {k} {n} {x} h e p q = subst (λ (t : List ℕ). Put l at t l″ k) (ap (λ (y : ℕ). decimalOf (n / 10) ++ (y ∷ [])) e ∙ sym (large n h)) (both p q)
+
+-- A blank and a number behind answer 16, and nothing behind another.
+pub awaited-put : (n : ℕ) {l l′ l″ : List ℕ} {at m k answer : ℕ} → answer ≡ 16 → Put l at (32 ∷ []) l′ m → Put l′ m (decimalOf n) l″ k
+    → Put l at (awaitedOf answer n) l″ k
+unfolding awaitedOf
+awaited-put n {l} {l′} {l″} {at} {m} {k} {answer} e p q = rw (eq-eqb answer 16 e) (both p q)
+
+pub awaited-none : (n : ℕ) {l : List ℕ} {at answer : ℕ} → (answer ≡ 16 → ⊥) → Put l at (awaitedOf answer n) l at
+unfolding awaitedOf
+awaited-none n {l} {at} {answer} e = rw (ne-eqb answer 16 e) none

@@ -2,7 +2,7 @@
 use Prim.Native.Nat.{ℕ, zero, suc, _+_, _/_, _%_}
 use mathlib.Core.Bool.{cond}
 use mathlib.Core.List.{List, [], _∷_, _++_}
-use lib.Dec.{ltb}
+use lib.Dec.{ltb, eqb}
 
 -- The last decimal digit of a number, in ASCII.
 abbrev pub lastDigit : ℕ → ℕ
@@ -29,9 +29,14 @@ namedOf name n = name ++ decimalOf n
 abbrev pub headerOf : List ℕ
 headerOf = 108 ∷ 105 ∷ 110 ∷ 101 ∷ 32 ∷ 97 ∷ 99 ∷ 116 ∷ 32 ∷ 97 ∷ 110 ∷ 115 ∷ 119 ∷ 101 ∷ 114 ∷ 32 ∷ 116 ∷ 97 ∷ 107 ∷ 101 ∷ 110 ∷ 10 ∷ []
 
+-- "a walk line with 16 now ends with a blank and this number": how many activities that activity waits for.
+unfoldable pub awaitedOf : ℕ → ℕ → List ℕ
+awaitedOf answer awaited = cond (eqb answer 16) (32 ∷ decimalOf awaited) []
+
 -- A line for a byte of the order: blanks between the numbers, and byte 0A.
-unfoldable pub lineOf : ℕ → ℕ → ℕ → ℕ → List ℕ
-lineOf line act answer taken = fieldOf line 32 ++ fieldOf act 32 ++ fieldOf answer 32 ++ fieldOf taken 10
+unfoldable pub lineOf : ℕ → ℕ → ℕ → ℕ → ℕ → List ℕ
+lineOf line act answer taken awaited =
+    fieldOf line 32 ++ fieldOf act 32 ++ fieldOf answer 32 ++ decimalOf taken ++ awaitedOf answer awaited ++ (10 ∷ [])
 
 -- "work ", " taken ", " ended ", " of " and "table "
 abbrev pub workName : List ℕ

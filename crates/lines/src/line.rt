@@ -1,6 +1,6 @@
 // The walk's lines. Each answers the place after its line.
 ghost use Rattle.lines.specs.Put.{Put};
-ghost use Rattle.lines.specs.Text.{fieldOf, namedOf, headerOf, lineOf, totalOf, refusedOf};
+ghost use Rattle.lines.specs.Text.{fieldOf, namedOf, headerOf, awaitedOf, lineOf, totalOf, refusedOf};
 use super::put::put_byte;
 use super::put::put_bytes;
 use super::put::put_number;
@@ -28,14 +28,35 @@ pub fn put_header(out: &mut [u8], at: usize) -> usize
     put_bytes(out, at, b"line act answer taken\n")
 }
 
-// The line of a byte of the order: its place from 1, the activity, the answer, and the steps taken so far.
-pub fn put_line(out: &mut [u8], at: usize, line: u64, act: u8, answer: u8, taken: u64) -> usize
-    ensures { λ r. ⌜ Put (now (out .entry)) at (lineOf line act answer taken) (now (out .exit)) r ⌝ }
+// Behind answer 16, a blank and how many activities are awaited.
+fn put_awaited(out: &mut [u8], at: usize, answer: u8, awaited: u8) -> usize
+    ensures { λ r. ⌜ Put (now (out .entry)) at (awaitedOf answer awaited) (now (out .exit)) r ⌝ }
+{
+    if answer != 16 {
+        return at;
+    }
+    let next = put_byte(out, at, 32);
+    put_number(out, next, awaited as u64)
+}
+
+// The line of a byte of the order: its place from 1, the activity, the answer, the steps taken so far, and behind answer 16 how many activities are awaited.
+pub fn put_line(
+    out: &mut [u8],
+    at: usize,
+    line: u64,
+    act: u8,
+    answer: u8,
+    taken: u64,
+    awaited: u8,
+) -> usize
+    ensures { λ r. ⌜ Put (now (out .entry)) at (lineOf line act answer taken awaited) (now (out .exit)) r ⌝ }
 {
     let first = put_field(out, at, line, 32);
     let second = put_field(out, first, act as u64, 32);
     let third = put_field(out, second, answer as u64, 32);
-    put_field(out, third, taken, 10)
+    let fourth = put_number(out, third, taken);
+    let fifth = put_awaited(out, fourth, answer, awaited);
+    put_byte(out, fifth, 10)
 }
 
 // The total: the work, the steps taken, the activities ended, and the activities spawned.

@@ -38,18 +38,23 @@ fn taken_by(answers: &[u8], line: usize) -> u64
 }
 
 // Puts the lines from one on at the buffer's start, as long as 128 bytes are free, which is room for any line.
-pub fn put_page(out: &mut [u8], order: &[u8], answers: &[u8], line: usize) -> Page
-    ensures { λ r. ⌜ Paged (now (out .entry)) (now (order .entry)) (now (answers .entry)) line (now (out .exit)) r ⌝ }
+pub fn put_page(out: &mut [u8], order: &[u8], answers: &[u8], awaited: &[u8], line: usize) -> Page
+    ensures { λ r. ⌜ Paged (now (out .entry)) (now (order .entry)) (now (answers .entry)) (now (awaited .entry)) line (now (out .exit)) r ⌝ }
 {
     let mut taken = taken_by(answers, line);
     let mut end: usize = 0;
     let mut next = line;
-    while next < order.len() && next < answers.len() && 128 <= out.len() - end {
+    while next < order.len()
+        && next < answers.len()
+        && next < awaited.len()
+        && 128 <= out.len() - end
+    {
         let answer = answers[next];
         let act = order[next];
+        let number = awaited[next];
         next += 1;
         taken += steps_of(answer);
-        end = put_line(out, end, next as u64, act, answer, taken);
+        end = put_line(out, end, next as u64, act, answer, taken, number);
     }
     Page { end, line: next }
 }

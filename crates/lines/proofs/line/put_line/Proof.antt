@@ -1,4 +1,4 @@
--- The four fields, one after the other.
+-- The parts, one after the other.
 use Rattle.lines.specs.Text.{lineOf}
 use Rattle.lines.proofs.Putting.{both}
 use borrow.Author.Needs.{needs}
@@ -14,8 +14,14 @@ put-field-requires-2 c κs = search needs
 put-field-requires-3 : tie.Need-put-field-requires-3
 put-field-requires-3 c κs = search needs
 
-put-field-requires-4 : tie.Need-put-field-requires-4
-put-field-requires-4 c κs = search needs
+put-number-requires : tie.Need-put-number-requires
+put-number-requires c κs = search needs
+
+put-awaited-requires : tie.Need-put-awaited-requires
+put-awaited-requires c κs = search needs
+
+put-byte-requires : tie.Need-put-byte-requires
+put-byte-requires c κs = search needs
 
 same-length : tie.Need-same-length
 same-length c = search needs
@@ -23,10 +29,13 @@ same-length c = search needs
 returns : tie.Need-returns
 unfolding lineOf
 returns c =
-    let first = c .before .before .before .before .before .before .before .before .before .before .before .before .before .before .put-field .ensures in
-    let second = c .before .before .before .before .before .before .before .before .before .before .put-field2 .ensures in
-    let third = c .before .before .before .before .before .before .put-field3 .ensures in
-    both (both (both first second) third) (c .before .before .put-field4 .ensures)
+    let fifth = c .before .before .before .before .before .before in
+    let fourth = fifth .before .before .before .before in
+    let third = fourth .before .before .before .before in
+    let second = third .before .before .before .before in
+    let first = second .before .before .before .before in
+    let fields = both (both (first .put-field .ensures) (second .put-field2 .ensures)) (third .put-field3 .ensures) in
+    both (both (both fields (fourth .put-number .ensures)) (fifth .put-awaited .ensures)) (c .before .before .put-byte .ensures)
 
 pub put-line-spec : {M : Type 1} → statement M
 put-line-spec =
@@ -35,6 +44,8 @@ put-line-spec =
     put-field-requires
     put-field-requires-2
     put-field-requires-3
-    put-field-requires-4
+    put-number-requires
+    put-awaited-requires
+    put-byte-requires
     same-length
     returns)
