@@ -238,6 +238,14 @@ pub fn ready(table: &[u8], bytes: &[u8]) -> (u8, u64) {
     }
 }
 
+/// How many activities an activity waits for, over bytes.
+pub fn awaited(table: &[u8], bytes: &[u8], activity: usize) -> (u8, u8) {
+    match table_and_state(table, bytes) {
+        Ok((table, state)) => calls::awaited_on(&table, &state, activity),
+        Err(refusal) => (refusal.number(), 0),
+    }
+}
+
 /// The standing sheet over bytes.
 pub fn registrations(table: &[u8], bytes: &[u8]) -> (u8, Sheet) {
     match table_and_state(table, bytes) {

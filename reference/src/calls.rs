@@ -32,6 +32,14 @@ pub fn ready(table: &[u8], state: &State) -> (u8, u64) {
     }
 }
 
+/// How many activities an activity waits for: numbers 1 to 15. A refused call gives 0.
+pub fn awaited(table: &[u8], state: &State, activity: usize) -> (u8, u8) {
+    match Table::read(table) {
+        Ok(table) => awaited_on(&table, state, activity),
+        Err(refusal) => (refusal.number(), 0),
+    }
+}
+
 /// The standing sheet: numbers 1 to 13. A refused call gives a sheet of zeros.
 pub fn registrations(table: &[u8], state: &State) -> (u8, Sheet) {
     match Table::read(table) {
@@ -54,6 +62,14 @@ pub fn ready_on(table: &Table, state: &State) -> (u8, u64) {
     }
 }
 
+/// How many activities an activity waits for, on a table already read: numbers 13 to 15.
+pub fn awaited_on(table: &Table, state: &State, activity: usize) -> (u8, u8) {
+    match checked_awaited(table, state, activity) {
+        Ok(count) => (0, count),
+        Err(refusal) => (refusal.number(), 0),
+    }
+}
+
 /// The standing sheet on a table already read: number 13.
 pub fn registrations_on(table: &Table, state: &State) -> (u8, Sheet) {
     if is_fit(table, state) {
@@ -68,6 +84,13 @@ fn checked_step(table: &Table, state: &mut State, activity: usize) -> Result<Out
         return Err(Refusal::UnfitState);
     }
     rules::step(table, state, activity)
+}
+
+fn checked_awaited(table: &Table, state: &State, activity: usize) -> Result<u8, Refusal> {
+    if !is_fit(table, state) {
+        return Err(Refusal::UnfitState);
+    }
+    rules::awaited(table, state, activity)
 }
 
 /// What a run gave: the answer of each step and the state after the last.

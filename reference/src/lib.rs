@@ -5,7 +5,7 @@
 //! * [`builder`]: tables from lists of commands, and back (number 18)
 //! * [`state`]: the state of a machine
 //! * [`fit`]: which states are fit for a table (number 13)
-//! * [`rules`]: the start, the step, the ready set and the sheet on fit states
+//! * [`rules`]: the start, the step, the waiting test, the ready set and the sheet on fit states
 //! * [`calls`]: the same as checked calls with the numbers of the paper
 //! * [`bytes`]: the state as bytes, and the calls over such bytes
 //! * [`walk`]: the text of the walk program
@@ -24,6 +24,6 @@ pub mod walk;
 
 pub use answer::{Fault, Outcome, Refusal};
 pub use builder::{build, list};
-pub use calls::{ready, registrations, run, start, step, Run};
+pub use calls::{awaited, ready, registrations, run, start, step, Run};
 pub use state::State;
 pub use table::{Counts, Table};

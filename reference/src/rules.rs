@@ -1,4 +1,4 @@
-//! The rules on accepted tables and fit states: numbers 14 to 17.
+//! The rules on accepted tables and fit states: numbers 14 to 17, and how many an activity waits for.
 //!
 //! Every function here relies on a state that is fit for its table.
 
@@ -24,7 +24,11 @@ pub fn start() -> State {
 
 /// One step of an activity. A refused step changes nothing.
 pub fn step(table: &Table, state: &mut State, activity: usize) -> Result<Outcome, Refusal> {
-    let outcome = prospect(table, state, activity)?;
+    let outcome = match prospect(table, state, activity)? {
+        Prospect::Faults(fault) => Outcome::Faulted(fault),
+        Prospect::Awaits(0) => Outcome::Stepped,
+        Prospect::Awaits(_) => return Err(Refusal::Waits),
+    };
     let place = current(table, &state.acts[activity]);
     let over = match outcome {
         Outcome::Faulted(_) => false,
@@ -50,7 +54,15 @@ pub fn ready(table: &Table, state: &State) -> u64 {
 
 /// Whether none of 14 to 16 applies to the activity.
 pub fn is_ready(table: &Table, state: &State, activity: usize) -> bool {
-    prospect(table, state, activity).is_ok()
+    awaited(table, state, activity) == Ok(0)
+}
+
+/// Numbers 14 and 15, or how many activities this one waits for: 0 where 16 does not apply.
+pub fn awaited(table: &Table, state: &State, activity: usize) -> Result<u8, Refusal> {
+    match prospect(table, state, activity)? {
+        Prospect::Faults(_) => Ok(0),
+        Prospect::Awaits(count) => Ok(count),
+    }
 }
 
 /// The standing sheet.
@@ -68,8 +80,15 @@ pub fn registrations(state: &State) -> Sheet {
     sheet
 }
 
-/// Numbers 14 to 16, or how the step would go. Faults come before waiting.
-fn prospect(table: &Table, state: &State, activity: usize) -> Result<Outcome, Refusal> {
+/// What is before an unended activity.
+enum Prospect {
+    Faults(Fault),
+    /// It waits for so many; with 0 its command can be done.
+    Awaits(u8),
+}
+
+/// Numbers 14 and 15, or what is before the activity. Faults come before waiting.
+fn prospect(table: &Table, state: &State, activity: usize) -> Result<Prospect, Refusal> {
     let Some(own) = state.spawned().get(activity) else {
         return Err(Refusal::NotSpawned);
     };
@@ -77,13 +96,10 @@ fn prospect(table: &Table, state: &State, activity: usize) -> Result<Outcome, Re
         return Err(Refusal::HasEnded);
     }
     let command = &current(table, own).command;
-    if let Some(fault) = fault(table, state, activity, command) {
-        return Ok(Outcome::Faulted(fault));
-    }
-    if waits(table, state, activity, command) {
-        return Err(Refusal::Waits);
-    }
-    Ok(Outcome::Stepped)
+    Ok(match fault(table, state, activity, command) {
+        Some(fault) => Prospect::Faults(fault),
+        None => Prospect::Awaits(awaited_at(table, state, activity, command)),
+    })
 }
 
 /// The command that an unended activity stands on.
@@ -170,13 +186,14 @@ fn owner_fault(state: &State, activity: usize, name: u8) -> Option<Fault> {
 
 // Waiting
 
-fn waits(table: &Table, state: &State, activity: usize, command: &Command) -> bool {
+/// How many activities this one waits for at a command that does not fault.
+fn awaited_at(table: &Table, state: &State, activity: usize, command: &Command) -> u8 {
     let own = &state.acts[activity];
     match command {
-        Command::Next => own.standing == Standing::Meeting && !may_pass(state, own),
-        Command::End => is_finish(runner(table, own)) && some_inside(state, activity),
+        Command::Next if own.standing == Standing::Meeting => holders_behind(state, own),
+        Command::End if is_finish(runner(table, own)) => unended_inside(state, activity),
         Command::Read(_) | Command::Reset(_) => unended_from(state, activity, 0),
-        _ => false,
+        _ => 0,
     }
 }
 
@@ -184,45 +201,41 @@ fn is_finish(runner: Option<&Place>) -> bool {
     runner.is_some_and(|place| matches!(place.command, Command::Finish { .. }))
 }
 
-/// Whether each own clock is quiescent in the activity's phase on it.
-fn may_pass(state: &State, own: &Activity) -> bool {
-    own.held()
-        .all(|hold| is_quiescent(state, hold.clock, hold.phase))
+/// How many activities keep an own clock from being quiescent in the own phase on it. One that
+/// does so on several clocks counts once, and one that is live at its own meeting counts itself.
+fn holders_behind(state: &State, own: &Activity) -> u8 {
+    let behind = |other: &&Activity| own.held().any(|hold| is_behind(other, hold));
+    state.spawned().iter().filter(behind).count() as u8
 }
 
-/// Whether no holder of the clock is in an earlier phase, or live in this one.
-fn is_quiescent(state: &State, clock: u8, phase: u32) -> bool {
-    let holds = state.spawned().iter().flat_map(Activity::held);
-    !holds
-        .filter(|hold| hold.clock == clock)
-        .any(|hold| is_behind(hold, phase))
+/// Whether the activity holds this clock in an earlier phase, or live in this one.
+fn is_behind(other: &Activity, own: &Hold) -> bool {
+    other.held().any(|hold| {
+        let live = hold.registration == Registration::Live;
+        hold.clock == own.clock && (hold.phase < own.phase || hold.phase == own.phase && live)
+    })
 }
 
-fn is_behind(hold: &Hold, phase: u32) -> bool {
-    hold.phase < phase || (hold.phase == phase && hold.registration == Registration::Live)
-}
-
-/// Whether an activity inside the finish of the top body has not ended.
-fn some_inside(state: &State, owner: usize) -> bool {
+/// How many activities inside the finish of the top body have not ended.
+fn unended_inside(state: &State, owner: usize) -> u8 {
     let first = state.acts[owner].top().map_or(0, |frame| frame.first);
     unended_from(state, owner, usize::from(first))
 }
 
-/// Whether a child of the activity numbered `first` or above, or a descendant of such a child,
-/// has not ended. Ended spawners still link their children to the activity.
-fn unended_from(state: &State, activity: usize, first: usize) -> bool {
+/// How many have not ended of the activity's children numbered `first` or above and of the
+/// descendants of these. Ended spawners still link their children to the activity.
+fn unended_from(state: &State, activity: usize, first: usize) -> u8 {
     let mut family = 0u64;
+    let mut unended = 0;
     for (i, other) in state.spawned().iter().enumerate().skip(1) {
         let spawner = usize::from(other.spawner);
         let child = spawner == activity && i >= first;
         if child || family >> spawner & 1 == 1 {
-            if !other.has_ended() {
-                return true;
-            }
             family |= 1 << i;
+            unended += u8::from(!other.has_ended());
         }
     }
-    false
+    unended
 }
 
 // Limits

@@ -1,6 +1,6 @@
 //! The state as bytes.
 
-use reference::bytes::{decode, encode, ready, registrations, start, step, LENGTH};
+use reference::bytes::{awaited, decode, encode, ready, registrations, start, step, LENGTH};
 use reference::calls::run;
 use reference::state::State;
 use reference::{calls, rules};
@@ -110,10 +110,12 @@ fn check_no_state(mut bytes: Vec<u8>) {
     assert_eq!(step(&table(), &mut bytes, 0), 13);
     assert_eq!(bytes, before);
     assert_eq!(ready(&table(), &bytes), (13, 0));
+    assert_eq!(awaited(&table(), &bytes, 0), (13, 0));
     assert_eq!(registrations(&table(), &bytes), (13, [[0; 16]; 64]));
     // The table is looked at first.
     assert_eq!(step(&[1, 1], &mut bytes, 0), 4);
     assert_eq!(ready(&[0, 0], &bytes), (2, 0));
+    assert_eq!(awaited(&[0, 0], &bytes, 64), (2, 0));
 }
 
 #[test]
@@ -128,6 +130,10 @@ fn calls_over_bytes_are_the_calls() {
         assert_eq!(answer, calls::step(&table, &mut state, activity));
         assert_eq!(bytes, encode(&state));
         assert_eq!(ready(&table, &bytes), calls::ready(&table, &state));
+        for activity in 0..65 {
+            let expected = calls::awaited(&table, &state, activity);
+            assert_eq!(awaited(&table, &bytes, activity), expected);
+        }
         assert_eq!(
             registrations(&table, &bytes),
             calls::registrations(&table, &state)

@@ -1,6 +1,6 @@
 //! Every case that the paper states.
 
-use reference::calls::{ready, registrations, run, start, step};
+use reference::calls::{awaited, ready, registrations, run, start, step};
 use reference::rules;
 use reference::state::{Standing, State};
 use reference::table::{count, Table};
@@ -14,7 +14,7 @@ line act answer taken
 1 0 0 1
 2 0 0 2
 3 0 0 3
-4 0 16 3
+4 0 16 3 1
 5 1 0 4
 6 0 0 5
 7 0 0 6
@@ -62,6 +62,7 @@ fn check_refused(table: &[u8], number: u8) {
     assert_eq!(step(table, &mut state, 0), number);
     assert_eq!(state, rules::start());
     assert_eq!(ready(table, &state), (number, 0));
+    assert_eq!(awaited(table, &state, 0), (number, 0));
     assert_eq!(registrations(table, &state), (number, [[0; 16]; 64]));
     assert_eq!(run(table, &[0]).unwrap_err(), number);
     assert_eq!(walk(table, &[0]), format!("table {number}\n"));

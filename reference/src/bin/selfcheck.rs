@@ -11,7 +11,7 @@ use reference::fit::{broken_clauses, is_fit};
 use reference::generate::{
     damage_state, limit_cases, list_of, order, random_table, room_of, strain_state, OrderKind, Rng,
 };
-use reference::state::{Registration, State};
+use reference::state::{Activity, Registration, Standing, State};
 use reference::table::{Command, Table};
 use reference::{build, calls, list, rules};
 
@@ -44,6 +44,8 @@ struct Tally {
     state_answers: BTreeMap<u8, u64>,
     damages: BTreeMap<&'static str, [u64; 2]>,
     runs: BTreeMap<&'static str, u64>,
+    /// How many an activity waited for, in runs.
+    awaited: BTreeMap<u8, u64>,
     /// By command: steps, faults and refusals in runs.
     commands: BTreeMap<&'static str, [u64; 3]>,
 }
@@ -55,6 +57,7 @@ impl Tally {
         println!("list answers (0 is accepted): {:?}", self.lists);
         println!("runs: {:?}", self.runs);
         println!("answers in runs: {:?}", self.run_answers);
+        println!("waited for in runs: {:?}", self.awaited);
         println!("commands in runs, [steps, faults, refusals]:");
         for (name, counts) in &self.commands {
             println!("  {name}: {counts:?}");
@@ -117,9 +120,11 @@ fn check_refused(table: &[u8], number: u8, start: &State) {
     assert_eq!(calls::step(table, &mut state, 0), number);
     assert_eq!(state, rules::start());
     assert_eq!(calls::ready(table, &state), (number, 0));
+    assert_eq!(calls::awaited(table, &state, 0), (number, 0));
     assert_eq!(calls::registrations(table, &state), (number, [[0; 16]; 64]));
     assert_eq!(bytes::start(table), (number, encode(&State::default())));
     assert_eq!(bytes::ready(table, &[]), (number, 0));
+    assert_eq!(bytes::awaited(table, &[], 0), (number, 0));
 }
 
 /// A list that is accepted given room is refused with 18 in less, and comes back from its table.
@@ -171,12 +176,15 @@ fn check_run(rng: &mut Rng, bytes: &[u8], table: &Table, tally: &mut Tally) {
     for (turn, &activity) in order.iter().enumerate() {
         let before = state.steps;
         let command = command_name(table, &state, activity);
+        let awaited = rules::awaited(table, &state, activity).unwrap_or(0);
         let answer = if turn % every == 0 {
             step_watched(table, &mut state, activity)
         } else {
             number(rules::step(table, &mut state, activity))
         };
+        check_awaited(answer, awaited);
         bump(&mut tally.run_answers, answer);
+        bump(&mut tally.awaited, awaited);
         tally.commands.entry(command).or_default()[column(answer)] += 1;
         assert!(!matches!(answer, 1..=13 | 17), "answer {answer} in a run");
         taken += u32::from(accepted(answer));
@@ -281,11 +289,29 @@ fn check_sheet(state: &State) {
     assert_eq!(shown, entries);
 }
 
+/// A step is answered with 16 exactly where its activity waits for somebody.
+fn check_awaited(answer: u8, awaited: u8) {
+    assert_eq!(answer == 16, awaited != 0, "{answer} with {awaited}");
+}
+
+/// The number that an activity waits for is that of those found one by one.
+fn check_count(table: &Table, state: &State, activity: usize, answer: u8) {
+    let (refusal, count) = calls::awaited_on(table, state, activity);
+    assert_eq!(refusal, if matches!(answer, 14 | 15) { answer } else { 0 });
+    check_awaited(answer, count);
+    if answer == 16 {
+        let all = 0..state.spawned().len();
+        let found = all.filter(|&other| keeps_waiting(table, state, activity, other));
+        assert_eq!(found.count(), usize::from(count));
+    }
+}
+
 /// The ready set names those whose step is not refused with 14 to 16.
 fn check_ready(table: &Table, state: &State) {
     let ready = rules::ready(table, state);
     for activity in 0..usize::from(state.activities) + 2 {
         let answer = number(rules::step(table, &mut state.clone(), activity));
+        check_count(table, state, activity, answer);
         let is_ready = activity < 64 && ready >> activity & 1 == 1;
         assert_eq!(is_ready, !matches!(answer, 14..=16));
     }
@@ -293,6 +319,42 @@ fn check_ready(table: &Table, state: &State) {
         ready.checked_shr(u32::from(state.activities)).unwrap_or(0),
         0
     );
+}
+
+/// Whether one activity waits for another, for one that waits.
+fn keeps_waiting(table: &Table, state: &State, activity: usize, other: usize) -> bool {
+    let own = &state.acts[activity];
+    let top = own.top().expect("one that waits has a body");
+    let place = table.place(top.body, top.offset).expect("a command");
+    let unended = !state.acts[other].has_ended();
+    match place.command {
+        Command::Next => is_behind(own, &state.acts[other]),
+        Command::End => unended && comes_by(state, other, activity) >= Some(top.first),
+        _ => unended && comes_by(state, other, activity).is_some(),
+    }
+}
+
+/// Whether the other is in an earlier phase of a clock of both, or live in the same phase.
+fn is_behind(own: &Activity, other: &Activity) -> bool {
+    own.held().any(|mine| {
+        let mut shared = other.held().filter(|theirs| theirs.clock == mine.clock);
+        shared.any(|theirs| match theirs.registration {
+            Registration::Live => theirs.phase <= mine.phase,
+            _ => theirs.phase < mine.phase,
+        })
+    })
+}
+
+/// The child of the ancestor by which an activity's chain of spawners comes to it.
+fn comes_by(state: &State, mut activity: usize, ancestor: usize) -> Option<u8> {
+    while activity != 0 {
+        let spawner = usize::from(state.acts[activity].spawner);
+        if spawner == ancestor {
+            return Some(activity as u8);
+        }
+        activity = spawner;
+    }
+    None
 }
 
 /// Where a run is finished, all work is done unless an activity faulted.
@@ -304,7 +366,7 @@ fn check_end(table: &Table, state: &State, length: usize, tally: &mut Tally) {
     let faulted = state
         .spawned()
         .iter()
-        .any(|a| matches!(a.standing, reference::state::Standing::Faulted(_)));
+        .any(|a| matches!(a.standing, Standing::Faulted(_)));
     let counts = table.counts();
     if faulted {
         assert!(state.steps < table.work());
@@ -333,8 +395,12 @@ fn check_damaged(
     } else {
         damage_state(&mut damaged, rng)
     };
-    let fit = decode(&damaged).is_some_and(|state| is_fit(table, &state));
+    let decoded = decode(&damaged).filter(|state| is_fit(table, state));
+    let fit = decoded.is_some();
     assert!(fit || !strained, "a strained state is fit");
+    if let Some(state) = decoded {
+        check_ready(table, &state);
+    }
     tally.damages.entry(name).or_default()[usize::from(!fit)] += 1;
     let (number, ready) = bytes::ready(table_bytes, &damaged);
     assert_eq!(number, if fit { 0 } else { 13 });
@@ -344,6 +410,9 @@ fn check_damaged(
         let answer = bytes::step(table_bytes, &mut after, activity);
         bump(&mut tally.state_answers, answer);
         assert_eq!(answer == 13, !fit);
+        let (number, count) = bytes::awaited(table_bytes, &damaged, activity);
+        assert_eq!(number, if matches!(answer, 13..=15) { answer } else { 0 });
+        check_awaited(answer, count);
         if accepted(answer) {
             let after = decode(&after).expect("an encoded state");
             assert!(is_fit(table, &after), "a step made the state unfit: {name}");
@@ -365,5 +434,7 @@ fn check_limit_cases(tally: &mut Tally) {
         assert_eq!(answer, 17, "{}", case.cause);
         assert_eq!(state, case.state);
         assert_eq!(bytes::ready(&case.table, &state), (0, 1), "{}", case.cause);
+        let awaited = bytes::awaited(&case.table, &state, case.activity);
+        assert_eq!(awaited, (0, 0), "{}", case.cause);
     }
 }
