@@ -1,5 +1,6 @@
 //! Tables by hand, and states by hand: a reached state with one edit, and the number that both interpreters answer.
 
+mod counts;
 mod numbers;
 mod tables;
 mod unfit;
@@ -10,6 +11,7 @@ use reference::calls;
 use reference::fit::{broken_clauses, CLAUSES};
 use reference::state::State;
 
+use crate::machine;
 use crate::points::{state_agrees, Job};
 use crate::tally::Tally;
 
@@ -29,13 +31,16 @@ struct Case {
     breaks: &'static [usize],
     activity: usize,
     number: u8,
+    /// How many the activity waits for.
+    awaited: u8,
 }
 
 /// Every case, and that each clause of number 13 has one.
 pub fn all_agree(tally: &mut Tally) {
     tables::all_agree(tally);
     let mut tried = [false; CLAUSES.len()];
-    for case in unfit::CASES.iter().chain(numbers::CASES) {
+    let numbers = numbers::CASES.iter().chain(counts::CASES);
+    for case in unfit::CASES.iter().chain(numbers) {
         agrees(case, tally);
         case.breaks.iter().for_each(|&clause| tried[clause] = true);
     }
@@ -56,6 +61,8 @@ fn agrees(case: &Case, tally: &mut Tally) {
     let bytes = edited(case, run.state);
     let found = state_agrees(&job, &bytes, [case.activity].into_iter())[0];
     assert_eq!(found, case.number, "{}", case.name);
+    let awaited = machine::awaited(&mut job.bytes.clone(), &mut bytes.clone(), case.activity);
+    assert_eq!(awaited.1, case.awaited, "{}: count", case.name);
     let others = [0, 1, 2, 63, 64, 256, usize::MAX].into_iter();
     let answers = state_agrees(&job, &bytes, others);
     assert!(

@@ -22,7 +22,7 @@ pub fn states_agree(job: &Job, points: &[Vec<u8>], rng: &mut Rng, tally: &mut Ta
 }
 
 /// Some activities that were spawned, and numbers that were not.
-fn activities(state: &[u8], rng: &mut Rng) -> impl Iterator<Item = usize> {
+fn activities(state: &[u8], rng: &mut Rng) -> impl Iterator<Item = usize> + Clone {
     let spawned = usize::from(state.get(1).copied().unwrap_or(0)).min(64);
     let start = rng.below(spawned + 1);
     let other = rng.pick(&[63, 64, 255, 256, 65_536, 1 << 32, usize::MAX]);

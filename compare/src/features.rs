@@ -80,8 +80,23 @@ const FEATURES: &[(&str, Test)] = &[
     ("waiting at NEXT for a holder in an earlier phase", |c| {
         c.waits(|x| *x == Command::Next) && c.some_hold(|own, other| other.phase < own.phase)
     }),
+    ("waiting at NEXT for 2 or more", |c| {
+        c.waits_for(2, |x| *x == Command::Next)
+    }),
+    ("waiting at NEXT for 3 or more", |c| {
+        c.waits_for(3, |x| *x == Command::Next)
+    }),
+    ("waiting at NEXT for one behind on 2 clocks", |c| {
+        c.waits(|x| *x == Command::Next) && c.behind_twice()
+    }),
     ("waiting at the END of a FINISH body", |c| {
         c.waits(|x| *x == Command::End)
+    }),
+    ("waiting at END for 2 or more", |c| {
+        c.waits_for(2, |x| *x == Command::End)
+    }),
+    ("waiting at END for a grandchild", |c| {
+        c.waits(|x| *x == Command::End) && c.grandchild_inside()
     }),
     ("waiting at END for one whose spawner has ended", |c| {
         c.waits(|x| *x == Command::End) && c.orphans()
@@ -91,6 +106,13 @@ const FEATURES: &[(&str, Test)] = &[
     (
         "waiting at READ or RESET for one whose spawner has ended",
         |c| c.waits(|x| is_read(x) || is_reset(x)) && c.orphans(),
+    ),
+    ("waiting at READ or RESET for 2 or more", |c| {
+        c.waits_for(2, |x| is_read(x) || is_reset(x))
+    }),
+    (
+        "waiting at READ or RESET for 2 or more, the spawner of one having ended",
+        |c| c.waits_for(2, |x| is_read(x) || is_reset(x)) && c.orphan(),
     ),
     ("READ or RESET after all descendants ended", |c| {
         c.does(|x| is_read(x) || is_reset(x)) && c.has_child()

@@ -26,6 +26,14 @@ extern "C" {
         m: usize,
         set: *mut u64,
     ) -> u8;
+    fn stepmachine_awaited(
+        table: *const u8,
+        n: usize,
+        state: *const u8,
+        m: usize,
+        activity: usize,
+        count: *mut u8,
+    ) -> u8;
     fn stepmachine_registrations(
         table: *const u8,
         n: usize,
@@ -80,6 +88,18 @@ pub fn ready(table: &[u8], state: &[u8]) -> (u8, u64) {
     let (bytes, length) = (state.as_ptr(), state.len());
     let number = unsafe { stepmachine_ready(table.as_ptr(), table.len(), bytes, length, &mut set) };
     (number, set)
+}
+
+/// The number and how many the activity waits for. What is lent may be written here, for the caller to see that it was not; the bytes
+/// beside the count stay.
+pub fn awaited(table: &mut [u8], state: &mut [u8], activity: usize) -> (u8, u8) {
+    let mut counts = [MARK; 3];
+    let (job, n) = (table.as_mut_ptr(), table.len());
+    let (bytes, m) = (state.as_mut_ptr(), state.len());
+    let to = counts.as_mut_ptr();
+    let number = unsafe { stepmachine_awaited(job, n, bytes, m, activity, to.add(1)) };
+    assert_eq!([counts[0], counts[2]], [MARK; 2], "a byte beside the count");
+    (number, counts[1])
 }
 
 /// The number and the sheet.

@@ -1,4 +1,5 @@
-//! Compares the machine over bytes with the second interpreter: at every point the answer, the whole state, the ready set and the sheet.
+//! Compares the machine over bytes with the second interpreter: at every point the answer, the whole state, the ready set, the sheet and
+//! how many activities wait for.
 //! Usage: compare TABLES SEED. The same seed gives the same tables, orders and states.
 
 mod cases;

@@ -1,4 +1,4 @@
-//! One state in both interpreters: the number, the ready set, the sheet, and one step.
+//! One state in both interpreters: the number, the ready set, the sheet, how many activities wait for, and one step.
 
 use reference::answer::number;
 use reference::bytes::{decode, encode};
@@ -65,6 +65,37 @@ fn flat_sheet(state: &State) -> [u8; 1_024] {
     flat
 }
 
+/// How many each of these activities waits for agrees, and the calls write nothing but the count.
+pub fn counts_agree(
+    job: &Job,
+    bytes: &[u8],
+    fit: Option<&State>,
+    activities: impl Iterator<Item = usize>,
+) {
+    let (mut table, mut state) = (job.bytes.clone(), bytes.to_vec());
+    for activity in activities {
+        let found = machine::awaited(&mut table, &mut state, activity);
+        let expected = expected_count(job, fit, activity);
+        agree!(
+            job,
+            found,
+            expected,
+            "number and count {found:?}, not {expected:?}, of those that {activity} waits for"
+        );
+    }
+    agree!(job, table, job.bytes, "table written by the count");
+    agree!(job, state, bytes, "state written by the count");
+}
+
+/// The reference's number and count, with 13 where there is no fit state.
+fn expected_count(job: &Job, fit: Option<&State>, activity: usize) -> (u8, u8) {
+    match fit.map(|state| rules::awaited(&job.table, state, activity)) {
+        None => (13, 0),
+        Some(Ok(count)) => (0, count),
+        Some(Err(refusal)) => (refusal.number(), 0),
+    }
+}
+
 /// A step of a fit state agrees, in its answer and in every byte after it.
 pub fn step_agrees(job: &Job, bytes: &mut [u8], state: &mut State, activity: usize) -> u8 {
     let taken = state.steps;
@@ -85,10 +116,15 @@ pub fn step_agrees(job: &Job, bytes: &mut [u8], state: &mut State, activity: usi
     found
 }
 
-/// A state of any kind agrees: the views, and a step of each of these activities.
-pub fn state_agrees(job: &Job, bytes: &[u8], activities: impl Iterator<Item = usize>) -> Vec<u8> {
+/// A state of any kind agrees: the views, and for each of these activities how many it waits for, and a step.
+pub fn state_agrees(
+    job: &Job,
+    bytes: &[u8],
+    activities: impl Iterator<Item = usize> + Clone,
+) -> Vec<u8> {
     let fit = fit_state(job, bytes);
     views_agree(job, bytes, fit.as_ref());
+    counts_agree(job, bytes, fit.as_ref(), activities.clone());
     let step = |activity| match &fit {
         Some(state) => step_agrees(job, &mut bytes.to_vec(), &mut state.clone(), activity),
         None => refusal_agrees(job, bytes, activity),

@@ -10,7 +10,7 @@ use reference::state::State;
 use crate::damaged;
 use crate::features::Watch;
 use crate::machine;
-use crate::points::{step_agrees, views_agree, Job};
+use crate::points::{counts_agree, step_agrees, views_agree, Job};
 use crate::tally::Tally;
 
 /// A run is compared at as many of its first points as its table's length allows: each call reads the table.
@@ -18,6 +18,9 @@ const MOST: usize = 300;
 const READ: usize = 60_000;
 /// Longer than the longest work: a run to its end, with numbers in between that are turned down.
 const WHOLE: usize = 110_000;
+/// At every point the count is compared of so many that wait, and at one in so many points of every number.
+const WAITING: usize = 8;
+const ALL_AT: usize = 160;
 
 /// The random things of one index: a table, its run, and damaged states of it.
 pub fn table_agrees(seed: u64, index: u64, tally: &mut Tally) {
@@ -33,7 +36,8 @@ pub fn table_agrees(seed: u64, index: u64, tally: &mut Tally) {
     }
 }
 
-/// Every call turns the table down with its number: the ready set is empty, the sheet is zeros, and all else that is lent stays.
+/// Every call turns the table down with its number: the ready set is empty, the sheet is zeros, the count is 0, and all else that is lent
+/// stays.
 pub fn refused_agrees(table: &[u8], number: u8) {
     for state in [encode(&rules::start()), Vec::new()] {
         let mut after = state.clone();
@@ -41,10 +45,21 @@ pub fn refused_agrees(table: &[u8], number: u8) {
         assert_eq!(after, state);
         assert_eq!(machine::ready(table, &state), (number, 0));
         assert_eq!(machine::registrations(table, &state), (number, [0; 1_024]));
+        count_refused(table, &state, number);
     }
     let (found, answers, state) = machine::run(table, &[0, 1, 0]);
     assert_eq!(found, number, "run of {table:02X?}");
     assert!(machine::is_untouched(&answers) && machine::is_untouched(&state));
+}
+
+/// The count of a table turned down is 0, and nothing else is written.
+fn count_refused(table: &[u8], state: &[u8], number: u8) {
+    let (mut lent, mut after) = (table.to_vec(), state.to_vec());
+    for activity in [0, 1, 64] {
+        let found = machine::awaited(&mut lent, &mut after, activity);
+        assert_eq!(found, (number, 0), "count of {table:02X?}");
+    }
+    assert!(lent == table && after == state, "count of {table:02X?}");
 }
 
 fn accepted_agrees(job: &Job, rng: &mut Rng, tally: &mut Tally) {
@@ -69,6 +84,9 @@ fn run_agrees(job: &Job, order: &[usize], kept: Vec<usize>, tally: &mut Tally) -
     for (k, &activity) in order.iter().enumerate() {
         assert!(is_fit(&job.table, &state), "{}: point {k}", job.name);
         views_agree(job, &bytes, Some(&state));
+        let counted = counted(job, &state, k, activity);
+        tally.counts += counted.len() as u64;
+        counts_agree(job, &bytes, Some(&state), counted.into_iter());
         if kept.contains(&k) {
             points.push(bytes.clone());
         }
@@ -79,12 +97,35 @@ fn run_agrees(job: &Job, order: &[usize], kept: Vec<usize>, tally: &mut Tally) -
         answers.push(answer);
     }
     views_agree(job, &bytes, Some(&state));
+    counts_agree(job, &bytes, Some(&state), 0..state.spawned().len() + 1);
     points.push(bytes);
     tally.steps += order.len() as u64;
     tally.ended += u64::from(state.is_finished());
     watch.count(&mut tally.features);
     one_call_agrees(job, order, &answers, &state);
     points
+}
+
+/// The activities whose count is compared at a point: those that wait, all or some in turn, the next one of the order, and in turn a spawned
+/// one or the number after the last; at some points every number.
+fn counted(job: &Job, state: &State, point: usize, next: usize) -> Vec<usize> {
+    if point % ALL_AT == ALL_AT / 4 {
+        return (0..65).chain([next]).collect();
+    }
+    let spawned = state.spawned().len();
+    let waits = |i: &usize| rules::awaited(&job.table, state, *i).is_ok_and(|count| count > 0);
+    let from = point % spawned.max(1);
+    let mut counted: Vec<usize> = (from..spawned)
+        .chain(0..from)
+        .filter(waits)
+        .take(WAITING)
+        .collect();
+    for other in [point % (spawned + 1), next] {
+        if !counted.contains(&other) {
+            counted.push(other);
+        }
+    }
+    counted
 }
 
 /// The run in one call, without the numbers that are no byte: those are turned down.

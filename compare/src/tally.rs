@@ -24,6 +24,8 @@ pub struct Tally {
     pub accepted: u64,
     pub ended: u64,
     pub steps: u64,
+    /// How often it was compared at a point how many an activity waits for.
+    pub counts: u64,
     pub states: u64,
     pub edits: u64,
     pub walks: u64,
@@ -47,6 +49,7 @@ impl Tally {
         self.accepted += other.accepted;
         self.ended += other.ended;
         self.steps += other.steps;
+        self.counts += other.counts;
         self.states += other.states;
         self.edits += other.edits;
         self.walks += other.walks;
@@ -61,8 +64,8 @@ impl Tally {
 
     pub fn print(&self, features: &[&'static str]) {
         println!(
-            "tables {} accepted {} runs ended {} steps {}",
-            self.tables, self.accepted, self.ended, self.steps
+            "tables {} accepted {} runs ended {} steps {} counts {}",
+            self.tables, self.accepted, self.ended, self.steps, self.counts
         );
         println!(
             "states by hand or damaged {} states with a byte changed {} walks {}",

@@ -4,7 +4,7 @@ use reference::state::{Hold, Registration, Standing, State, MAX_PHASE};
 
 use super::{Case, Edit};
 
-const fn case(
+pub const fn case(
     name: &'static str,
     table: &'static [u8],
     order: &'static [usize],
@@ -19,7 +19,20 @@ const fn case(
         breaks: &[],
         activity,
         number,
+        awaited: 0,
     }
+}
+
+/// A case of number 16: the activity, and how many it waits for.
+pub const fn waiting(
+    name: &'static str,
+    table: &'static [u8],
+    order: &'static [usize],
+    edit: fn(&mut State),
+    (activity, awaited): (usize, u8),
+) -> Case {
+    let case = case(name, table, order, edit, (activity, 16));
+    Case { awaited, ..case }
 }
 
 /// Main and activity 1 meet on clock 0, the paper's printed table; work 8.
@@ -38,7 +51,7 @@ const BELOW: &[u8] = &[4, 6, 1, 0, 5, 2, 0, 0, 5, 3, 0, 0, 13, 0, 0];
 /// Main waits at RESET for a child's child.
 const RESETTER: &[u8] = &[3, 8, 0, 0, 5, 1, 0, 11, 0, 0, 5, 2, 0, 0, 13, 0, 0];
 
-fn nothing(_: &mut State) {}
+pub fn nothing(_: &mut State) {}
 
 fn all_steps(state: &mut State) {
     state.steps = 8;
@@ -132,38 +145,38 @@ pub const CASES: &[Case] = &[
         (63, 15),
     ),
     // Number 16
-    case("16 at a meeting", MEET, &[0, 0, 0], nothing, (0, 16)),
-    case(
+    waiting("16 at a meeting", MEET, &[0, 0, 0], nothing, (0, 1)),
+    waiting(
         "16 before 17 at a meeting, no steps left",
         MEET,
         &[0, 0, 0],
         all_steps,
-        (0, 16),
+        (0, 1),
     ),
-    case(
+    waiting(
         "16 before 17 at a meeting, last phase",
         MEET,
         &[0, 0, 0],
         last_phase,
-        (0, 16),
+        (0, 1),
     ),
-    case(
+    waiting(
         "16 for a holder in an earlier phase",
         MEET,
         &[0, 0, 0, 1],
         |s| {
             s.acts[0].holds[0].phase = 1;
         },
-        (0, 16),
+        (0, 1),
     ),
-    case(
+    waiting(
         "16 for itself, live at a meeting",
         MEET,
         &[0, 0, 0, 1],
         |s| {
             s.acts[0].holds[0].registration = Registration::Live;
         },
-        (0, 16),
+        (0, 1),
     ),
     case(
         "no wait for a holder in a later phase",
@@ -175,13 +188,13 @@ pub const CASES: &[Case] = &[
         },
         (0, 0),
     ),
-    case("16 at READ", READER, &[0, 0], nothing, (0, 16)),
-    case(
+    waiting("16 at READ", READER, &[0, 0], nothing, (0, 1)),
+    waiting(
         "16 before 17 at READ, no steps left",
         READER,
         &[0, 0],
         |s| s.steps = 6,
-        (0, 16),
+        (0, 1),
     ),
     case(
         "no wait at READ for one that faulted",
@@ -194,19 +207,19 @@ pub const CASES: &[Case] = &[
         },
         (0, 0),
     ),
-    case(
+    waiting(
         "16 at the END of a FINISH body",
         INSIDE,
         &[0, 0, 0],
         nothing,
-        (0, 16),
+        (0, 1),
     ),
-    case(
+    waiting(
         "16 before 17 at END, no steps left",
         INSIDE,
         &[0, 0, 0],
         |s| s.steps = 9,
-        (0, 16),
+        (0, 1),
     ),
     case(
         "no wait at END for a child from before",
@@ -215,28 +228,28 @@ pub const CASES: &[Case] = &[
         nothing,
         (0, 0),
     ),
-    case(
+    waiting(
         "16 at END from the first activity on",
         INSIDE,
         &[0, 0, 0, 2, 2],
         |s| {
             s.acts[0].frames[1].first = 0;
         },
-        (0, 16),
+        (0, 1),
     ),
-    case(
+    waiting(
         "16 at END for a child's child",
         BELOW,
         &[0, 0, 1, 1],
         nothing,
-        (0, 16),
+        (0, 1),
     ),
-    case(
+    waiting(
         "16 at RESET for a child's child",
         RESETTER,
         &[0, 0, 1, 1],
         nothing,
-        (0, 16),
+        (0, 1),
     ),
     case(
         "RESET once it has ended",

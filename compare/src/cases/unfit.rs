@@ -48,6 +48,7 @@ const fn unfit(name: &'static str, breaks: &'static [usize], edit: fn(&mut State
         breaks,
         activity: 0,
         number: 13,
+        awaited: 0,
     }
 }
 
@@ -61,6 +62,7 @@ const fn no_state(name: &'static str, edit: fn(&mut Vec<u8>)) -> Case {
         breaks: &[],
         activity: 0,
         number: 13,
+        awaited: 0,
     }
 }
 

@@ -1,5 +1,6 @@
 //! What a call of a step shows of its run.
 
+use reference::rules;
 use reference::state::{Activity, Frame, Hold, Registration, Standing, State};
 use reference::table::{Command, Table};
 
@@ -40,6 +41,12 @@ impl Call<'_> {
         self.answer == 16 && self.command().is_some_and(kind)
     }
 
+    /// Whether a command of this kind waits for so many or more.
+    pub fn waits_for(&self, least: u8, kind: fn(&Command) -> bool) -> bool {
+        let awaited = || rules::awaited(self.table, self.before, self.activity);
+        self.waits(kind) && awaited().is_ok_and(|count| count >= least)
+    }
+
     /// Whether a NEXT was passed.
     pub fn passes(&self) -> bool {
         self.does(|x| *x == Command::Next) && self.own().standing == Standing::Meeting
@@ -55,6 +62,16 @@ impl Call<'_> {
             let mut own = self.own().held();
             own.any(|own| own.clock == other.clock && test(own, other))
         })
+    }
+
+    /// Whether another holder is behind on 2 or more of the own clocks.
+    pub fn behind_twice(&self) -> bool {
+        let behind = |other: &Activity| {
+            let own = self.own().held();
+            own.filter(|own| other.held().any(|hold| is_behind(hold, own)))
+                .count()
+        };
+        self.before.spawned().iter().any(|other| behind(other) > 1)
     }
 
     /// The most holders of one of the own clocks.
@@ -135,15 +152,30 @@ impl Call<'_> {
         self.own().top().map_or(0, |frame| frame.runs)
     }
 
-    /// The activities below this one, by number.
-    fn descendants(&self) -> Vec<usize> {
-        let mut family = vec![self.activity];
+    /// The children of this one from a number on, and the activities below these, by number.
+    fn below_from(&self, first: usize) -> Vec<usize> {
+        let mut below = Vec::new();
         for (i, other) in self.before.spawned().iter().enumerate().skip(1) {
-            if family.contains(&usize::from(other.spawner)) {
-                family.push(i);
+            let spawner = usize::from(other.spawner);
+            let child = spawner == self.activity && i >= first;
+            if child || below.contains(&spawner) {
+                below.push(i);
             }
         }
-        family.split_off(1)
+        below
+    }
+
+    /// The activities below this one, by number.
+    fn descendants(&self) -> Vec<usize> {
+        self.below_from(0)
+    }
+
+    /// Whether an unended activity inside the finish of the top body is not a child of this one.
+    pub fn grandchild_inside(&self) -> bool {
+        let first = self.own().top().map_or(0, |frame| frame.first);
+        let acts = &self.before.acts;
+        let mut inside = self.below_from(usize::from(first)).into_iter();
+        inside.any(|i| !acts[i].has_ended() && usize::from(acts[i].spawner) != self.activity)
     }
 
     pub fn has_child(&self) -> bool {
@@ -154,6 +186,14 @@ impl Call<'_> {
     pub fn unended_below(&self) -> bool {
         let acts = &self.before.acts;
         self.descendants().iter().any(|&i| !acts[i].has_ended())
+    }
+
+    /// Whether some unended descendant has a spawner that has ended.
+    pub fn orphan(&self) -> bool {
+        let acts = &self.before.acts;
+        let ended = |i: usize| acts[i].has_ended();
+        let mut below = self.descendants().into_iter();
+        below.any(|i| !ended(i) && ended(usize::from(acts[i].spawner)))
     }
 
     /// Whether all unended descendants have a spawner that has ended.
@@ -197,4 +237,10 @@ impl Call<'_> {
         let acc = self.does(|x| matches!(x, Command::Acc { .. }));
         acc && self.named_accumulator().is_some()
     }
+}
+
+/// Whether a hold on the same clock is in an earlier phase, or live in the same one.
+fn is_behind(hold: &Hold, own: &Hold) -> bool {
+    let live = hold.registration == Registration::Live;
+    hold.clock == own.clock && (hold.phase < own.phase || hold.phase == own.phase && live)
 }
