@@ -18,9 +18,9 @@ const MOST: usize = 300;
 const READ: usize = 60_000;
 /// Longer than the longest work: a run to its end, with numbers in between that are turned down.
 const WHOLE: usize = 110_000;
-/// At every point the count is compared of so many that wait, and at one in so many points of every number.
-const WAITING: usize = 8;
-const ALL_AT: usize = 160;
+/// At every point the count is compared of so many that wait, and at this point of every number.
+const WAITING: usize = 4;
+const ALL_AT: usize = 100;
 
 /// The random things of one index: a table, its run, and damaged states of it.
 pub fn table_agrees(seed: u64, index: u64, tally: &mut Tally) {
@@ -107,9 +107,9 @@ fn run_agrees(job: &Job, order: &[usize], kept: Vec<usize>, tally: &mut Tally) -
 }
 
 /// The activities whose count is compared at a point: those that wait, all or some in turn, the next one of the order, and in turn a spawned
-/// one or the number after the last; at some points every number.
+/// one or the number after the last; at one point every number.
 fn counted(job: &Job, state: &State, point: usize, next: usize) -> Vec<usize> {
-    if point % ALL_AT == ALL_AT / 4 {
+    if point == ALL_AT {
         return (0..65).chain([next]).collect();
     }
     let spawned = state.spawned().len();
