@@ -18,6 +18,8 @@ const CROWD: &[u8] = &[3, 2, 0, 7, 63, 1, 1, 0, 5, 2, 1, 0, 1, 0];
 const INSIDE: &[u8] = &[3, 6, 1, 0, 5, 2, 0, 5, 2, 0, 0, 0];
 /// Main waits at the END of a FINISH body for a child and its child.
 const BELOW: &[u8] = &[4, 6, 1, 0, 5, 2, 0, 0, 5, 3, 0, 0, 13, 0, 0];
+/// Activity 1 is in a finish, and 3 is inside it; main's child 2 came during it.
+const DURING: &[u8] = &[4, 5, 1, 0, 5, 3, 0, 0, 6, 2, 0, 5, 3, 0, 0, 13, 0, 0];
 /// Main reads while it has a child and the child has one.
 const READER: &[u8] = &[3, 8, 0, 0, 5, 1, 0, 10, 0, 0, 5, 2, 0, 0, 0];
 
@@ -156,6 +158,7 @@ pub const CASES: &[Case] = &[
         |s| s.acts[0].frames[1].first = 3,
         (0, 0),
     ),
+    waiting("another's child", DURING, &[0, 1, 0, 1], nothing, (1, 1)),
     waiting("a child and its child", BELOW, &[0, 0, 1], nothing, (0, 2)),
     waiting(
         "a chain inside, and a child and its child from before",
