@@ -1,3 +1,4 @@
+pub mod Filled
 pub mod Runs
 pub mod Looking
 pub mod Readying

@@ -1,10 +1,11 @@
--- Numbers 14 to 16, and the command that the activity stands on.
+-- Numbers 14 to 16, how many it waits for, and the command that the activity stands on.
 use Prim.Native.Nat.{ℕ, _-_, _≤_, _<_}
 use native.Mathlib.Omega.{arith}
-use mathlib.Core.Path.{_≡_, sym, ap, _∙_}
+use mathlib.Core.Path.{_≡_, refl, sym, ap, _∙_}
 use mathlib.Core.List.{List}
-use mathlib.Core.Bool.{Bool, true, false}
-use borrow.Author.Tests.{lt-ltb, le-ltb}
+use mathlib.Core.Bool.{true, false}
+use lib.Dec.{eqb}
+use borrow.Author.Tests.{lt-ltb, le-ltb, eqb-true}
 use Rattle.program.specs.Bodies.{Program, programOf}
 use Rattle.program.specs.declared.command.Command.{Command}
 use Rattle.rules.specs.declared.state.Frame.{Frame}
@@ -14,24 +15,28 @@ use Rattle.rules.specs.declared.state.State.{State}
 use Rattle.rules.specs.State.{act, frame, top, ended, isEnded}
 use Rattle.rules.specs.Tree.{here}
 use Rattle.rules.specs.WellFormed.{isPlaced, wellFormed}
-use Rattle.rules.specs.Steps.{at, waits, refusal}
+use Rattle.rules.specs.Steps.{at, awaited, waits, refusal, canStep}
+use Rattle.rules.proofs.Awaited.{awaited-zero}
 use Rattle.rules.proofs.Turn.{turn-back}
 use Rattle.rules.proofs.WellFormedFacts.{Facts, ActivityFacts, facts}
 use Rattle.places.specs.Known.{Known}
 use Rattle.fields.specs.Lent.{Lent, Reads, ReadsAct}
-use Rattle.waits.specs.Waits.{Waits}
-use Rattle.turns.specs.Turns.{Sees}
+use Rattle.waits.specs.Waits.{Awaits}
+use Rattle.turns.specs.declared.look.Seen.{Seen}
+use Rattle.turns.specs.Turns.{Sees, Looks, CanStep}
 
--- A number other than 0 is all that is promised.
-refused : {p : Program} {s : State} {i n : ℕ} {c : Command} → n ≡ refusal p s i → (n ≡ 0 → ⊥) → Sees p s i n c
-refused e h = record { number = e; stands = λ z. absurd (h z) }
+-- Where it is turned down, nothing is promised of the command.
+refused : {p : Program} {s : State} {i n : ℕ} {r : Seen} → r .number ≡ n → n ≡ refusal p s i → r .awaited ≡ awaited p s i → (n ≡ 0 → ⊥) → Sees p s i r
+refused e f g h = record { number = e ∙ f; count = g; stands = λ z. absurd (h (sym e ∙ z)) }
 
 -- Number 14.
-pub not-spawned : {b : List ℕ} {p : Program} {s : State} {i n : ℕ} {c : Command} → Lent b s → Reads (λ (x : State). x .activities) b n → n ≤ i → Sees p s i 14 c
-unfolding refusal
-not-spawned {s = s} {i = i} {n = n} l f h =
-    let e : n ≡ s .activities = f .reads s l in
-    refused (rw (le-ltb i (s .activities) (omega arith))) (λ z. omega arith)
+pub not-spawned : {b : List ℕ} {p : Program} {s : State} {i n : ℕ} {r : Seen} → Lent b s → Reads (λ (x : State). x .activities) b n → n ≤ i → (r .number ≡ 14) × (r .awaited ≡ 0)
+    → Sees p s i r
+unfolding refusal awaited
+not-spawned {s = s} {i = i} {n = n} l f h e =
+    let q : n ≡ s .activities = f .reads s l in
+    let z = le-ltb i (s .activities) (omega arith) in
+    refused (e .0) (rw z) (e .1 ∙ rw z) (λ y. omega arith)
 
 module _ {t starts b : List ℕ} {s : State} {i n : ℕ} (k : Known t starts) (l : Lent b s) (formed : wellFormed 65535 (programOf t) s ≡ true)
     (f : Reads (λ (x : State). x .activities) b n) (below : i < n) where
@@ -52,9 +57,9 @@ module _ {t starts b : List ℕ} {s : State} {i n : ℕ} (k : Known t starts) (l
     status = ap isEnded (sym (g .reads s l few))
 
     -- Number 15.
-    pub has-ended : {c : Command} → isEnded x ≡ true → Sees (programOf t) s i 15 c
-    unfolding refusal
-    has-ended e = refused (rw (lt-ltb i (s .activities) spawned, status, e)) (λ z. omega arith)
+    pub has-ended : {r : Seen} → isEnded x ≡ true → (r .number ≡ 15) × (r .awaited ≡ 0) → Sees (programOf t) s i r
+    unfolding refusal awaited
+    has-ended e v = refused (v .0) (rw (lt-ltb i (s .activities) spawned, status, e)) (v .1 ∙ rw (lt-ltb i (s .activities) spawned, status, e)) (λ z. omega arith)
 
     module _ (u : isEnded x ≡ false) {d : ℕ} (h : ReadsAct (λ (a : Activity). a .depth) b i d) where
       unended : ended s i ≡ false
@@ -82,19 +87,32 @@ module _ {t starts b : List ℕ} {s : State} {i n : ℕ} (k : Known t starts) (l
             let on : isPlaced (programOf t) (top (act s i)) ≡ true = own .stack .placed (act s i .depth - 1) (omega arith) in
             sym (c k (rw at-top on) ∙ ap (λ (z : Frame). here (programOf t) z .command) at-top)
 
-        module _ {v : Bool} (w : Waits t starts command b i v) where
-          asked : v ≡ waits (programOf t) s i
+        module _ {v : ℕ} (w : Awaits t starts command b i v) where
+          asked : v ≡ awaited (programOf t) s i
           asked = w .tells k s l formed spawned unended stands
 
           -- Number 16.
-          pub waiting : v ≡ true → Sees (programOf t) s i 16 command
-          unfolding refusal
-          waiting e = refused (rw (lt-ltb i (s .activities) spawned, unended, ← asked, e)) (λ z. omega arith)
+          pub waiting : (v ≡ 0 → ⊥) → Sees (programOf t) s i (record { number = 16; awaited = v; command = command })
+          waiting h =
+              let q = asked in
+              let e = sym (awaited-zero (programOf t) s i) ∙ lt-ltb 0 (awaited (programOf t) s i) (above h q) in
+              refused refl (sym (eqb-true (refusal (programOf t) s i) 16 e)) asked (λ z. omega arith)
+            where
+              above : {x y : ℕ} → (x ≡ 0 → ⊥) → x ≡ y → 0 < y
+              above h e = omega arith
 
           -- None of them.
-          pub moving : v ≡ false → Sees (programOf t) s i 0 command
+          pub moving : v ≡ 0 → Sees (programOf t) s i (record { number = 0; awaited = v; command = command })
+          unfolding waits
           moving e =
+              let q : awaited (programOf t) s i ≤ 0 = let y = asked in omega arith in
               record {
-                number = sym (turn-back (programOf t) s i (record { spawned = spawned; unended = unended; moves = sym asked ∙ e }));
+                number = sym (turn-back (programOf t) s i (record { spawned = spawned; unended = unended; moves = le-ltb 0 (awaited (programOf t) s i) q }));
+                count = asked;
                 stands = λ z. stands;
               }
+
+-- Who meets none of them can step.
+pub able : {t starts b : List ℕ} {i : ℕ} {r : Seen} → Looks t starts b i r → CanStep t starts b i (eqb (r .number) 0)
+unfolding canStep
+able g = record { tells = λ k s l w. ap (λ (n : ℕ). eqb n 0) (g .sees k s l w .number) }

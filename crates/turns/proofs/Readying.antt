@@ -3,12 +3,12 @@ use Prim.Native.Nat.{ℕ, zero, suc, _+_, _-_, _*_, _%_, _^_, _≤_, _<_}
 use native.Mathlib.Omega.{arith}
 use native.Mathlib.Numerals.{add-one}
 use mathlib.Core.Path.{_≡_, refl, sym, _∙_}
-use mathlib.Core.Bool.{true, false}
+use mathlib.Core.Bool.{Bool, true, false}
 use mathlib.Core.List.{List}
-use lib.Dec.{ltb, eqb, lit<}
+use lib.Dec.{ltb, lit<}
 use lib.Pow.{shl-exact}
 use lib.Bits.{bitOr, or-shifted-r}
-use borrow.Author.Tests.{eq-eqb, ne-eqb, le-ltb}
+use borrow.Author.Tests.{le-ltb}
 use Rattle.program.specs.Bodies.{Program, programOf}
 use Rattle.rules.specs.declared.state.State.{State}
 use Rattle.rules.specs.Search.{bitsBelow}
@@ -18,7 +18,7 @@ use Rattle.rules.proofs.Bits.{bits-below}
 use Rattle.rules.proofs.WellFormedFacts.{facts}
 use Rattle.places.specs.Known.{Known}
 use Rattle.fields.specs.Lent.{Lent, Reads}
-use Rattle.turns.specs.Turns.{Looks, Readies}
+use Rattle.turns.specs.Turns.{CanStep, Readies}
 
 -- `1 << i` at 64 bits, put on a number below it.
 or-bit : (b i : ℕ) → i < 64 → b < 2 ^ i → bitOr b (1 * 2 ^ i % 2 ^ 64) ≡ b + 2 ^ i
@@ -43,29 +43,29 @@ module _ {t starts b : List ℕ} where
   ready-none = record { here = λ k s l w. refl }
 
   module _ {set i : ℕ} (x : Below t starts b set i) where
-    module _ (h : i < 64) {r : ℕ} (g : Looks t starts b i r) {now : ℕ} where
+    module _ (h : i < 64) {r : Bool} (g : CanStep t starts b i r) {now : ℕ} where
       -- Who can step gets a bit.
-      pub ready-set : now ≡ bitOr set (1 * 2 ^ i % 2 ^ 64) → r ≡ 0 → Below t starts b now (i + 1)
-      unfolding bitsBelow canStep
+      pub ready-set : now ≡ bitOr set (1 * 2 ^ i % 2 ^ 64) → r ≡ true → Below t starts b now (i + 1)
+      unfolding bitsBelow
       ready-set e z =
           record {
             here =
                 λ k s l w.
                 let p = programOf t in
-                let q : eqb (refusal p s i) 0 ≡ true = eq-eqb (refusal p s i) 0 (sym (g .tells k s l w) ∙ z) in
+                let q : canStep p s i ≡ true = sym (g .tells k s l w) ∙ z in
                 let m = bits-below i (canStep p s) in
                 e ∙ rw (x .here k s l w, or-bit (bitsBelow i (canStep p s)) i h m, add-one i, q);
           }
 
       -- Another does not.
-      pub ready-left : now ≡ set → (r ≡ 0 → ⊥) → Below t starts b now (i + 1)
-      unfolding bitsBelow canStep
+      pub ready-left : now ≡ set → r ≡ false → Below t starts b now (i + 1)
+      unfolding bitsBelow
       ready-left e n =
           record {
             here =
                 λ k s l w.
                 let p = programOf t in
-                let q : eqb (refusal p s i) 0 ≡ false = ne-eqb (refusal p s i) 0 (λ z. n (g .tells k s l w ∙ z)) in
+                let q : canStep p s i ≡ false = sym (g .tells k s l w) ∙ n in
                 e ∙ rw (x .here k s l w, add-one i, q) (omega arith);
           }
 

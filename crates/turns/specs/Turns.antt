@@ -2,42 +2,46 @@
 use Prim.Native.Nat.{ℕ, _≤_, _<_}
 use mathlib.Core.Path.{_≡_}
 use mathlib.Core.List.{List, map, _++_}
-use mathlib.Core.Bool.{true}
+use mathlib.Core.Bool.{Bool, true}
 use lib.ListN.{length, take, drop}
 use Rattle.program.specs.Bodies.{Program, programOf}
 use Rattle.program.specs.Count.{workOf}
 use Rattle.program.specs.Table.{workLimit, numberOf}
-use Rattle.program.specs.declared.command.Command.{Command}
 use Rattle.rules.specs.declared.state.State.{State}
 use Rattle.rules.specs.State.{answerNumber}
 use Rattle.rules.specs.WellFormed.{wellFormed}
 use Rattle.rules.specs.Search.{bitsBelow}
-use Rattle.rules.specs.Steps.{base, at, refusal, canStep}
-use Rattle.rules.specs.Runs.{runFrom, answersFrom}
+use Rattle.rules.specs.Steps.{base, at, awaited, refusal, canStep}
+use Rattle.rules.specs.Runs.{runFrom, answersFrom, awaitedFrom}
 use Rattle.places.specs.Known.{Known}
 use Rattle.fields.specs.Lent.{Lent}
 use Rattle.moves.specs.Moves.{Turned}
+use Rattle.turns.specs.declared.look.Seen.{Seen}
+use Rattle.turns.specs.declared.Reply.{Reply}
 
--- What activity i meets on the way to a step: the number n, 14 to 16 or 0, and, where it is 0, the command that it stands on.
-pub record Sees (p : Program) (s : State) (i n : ℕ) (command : Command) : Type 0 where
-  pub number : n ≡ refusal p s i
-  pub stands : n ≡ 0 → at p s i .command ≡ command
+-- What activity i meets on the way to a step: the number 14 to 16 or 0, how many it waits for, and, where the number is 0, the command that it stands on.
+pub record Sees (p : Program) (s : State) (i : ℕ) (r : Seen) : Type 0 where
+  pub number : r .number ≡ refusal p s i
+  pub count : r .awaited ≡ awaited p s i
+  pub stands : r .number ≡ 0 → at p s i .command ≡ r .command
 
 -- So of activity i, whichever number it is, of a well-formed state.
-pub record Meets (t starts b : List ℕ) (i n : ℕ) (command : Command) : Type 0 where
-  pub sees : Known t starts → (s : State) → Lent b s → wellFormed 65535 (programOf t) s ≡ true → Sees (programOf t) s i n command
+pub record Looks (t starts b : List ℕ) (i : ℕ) (r : Seen) : Type 0 where
+  pub sees : Known t starts → (s : State) → Lent b s → wellFormed 65535 (programOf t) s ≡ true → Sees (programOf t) s i r
 
--- The number alone.
-pub record Looks (t starts b : List ℕ) (i r : ℕ) : Type 0 where
-  pub tells : Known t starts → (s : State) → Lent b s → wellFormed 65535 (programOf t) s ≡ true → r ≡ refusal (programOf t) s i
+-- It can step.
+pub record CanStep (t starts b : List ℕ) (i : ℕ) (r : Bool) : Type 0 where
+  pub tells : Known t starts → (s : State) → Lent b s → wellFormed 65535 (programOf t) s ≡ true → r ≡ canStep (programOf t) s i
 
 -- The ready set of a well-formed state.
 pub record Readies (t starts b : List ℕ) (r : ℕ) : Type 0 where
   pub tells : Known t starts → (s : State) → Lent b s → wellFormed 65535 (programOf t) s ≡ true → r ≡ bitsBelow 64 (canStep (programOf t) s)
 
--- A turn of activity i, whichever number it is, of a well-formed state: numbers 14 to 17, or the one next state.
-pub record TurnsAny (t starts b c : List ℕ) (work i r : ℕ) : Type 0 where
-  pub turns : Known t starts → work ≡ workOf (programOf t) → work ≤ workLimit → (s : State) → Lent b s → wellFormed 65535 (programOf t) s ≡ true → Turned (programOf t) s i c r
+-- A turn of activity i, whichever number it is, of a well-formed state: numbers 14 to 17, or the one next state; and how many it waits for.
+pub record TurnsAny (t starts b c : List ℕ) (work i : ℕ) (r : Reply) : Type 0 where
+  pub turns : Known t starts → work ≡ workOf (programOf t) → work ≤ workLimit → (s : State) → Lent b s → wellFormed 65535 (programOf t) s ≡ true
+      → Turned (programOf t) s i c (r .number)
+  pub waits : Known t starts → (s : State) → Lent b s → wellFormed 65535 (programOf t) s ≡ true → r .awaited ≡ awaited (programOf t) s i
 
 -- An order that can be followed: each state on the way is well-formed, and there is room for an answer to each step.
 pub record Followable (t : List ℕ) (starts : List ℕ) (work : ℕ) (s : State) (order : List ℕ) (room : ℕ) : Type 0 where
@@ -52,6 +56,11 @@ pub record Followable (t : List ℕ) (starts : List ℕ) (work : ℕ) (s : State
 unfoldable pub answeredFrom : List ℕ → State → List ℕ → List ℕ → List ℕ
 answeredFrom t s order buffer = map answerNumber (answersFrom base t s order) ++ drop (length order) buffer
 
--- The bytes go over into those of the state that the order leads to, and the answers stand in the buffer.
-pub record Follows (t starts : List ℕ) (work : ℕ) (order before after b c : List ℕ) : Type 0 where
-  pub follows : (s : State) → Lent b s → Followable t starts work s order (length before) → Lent c (runFrom base t s order) × (after ≡ answeredFrom t s order before)
+-- How many each step waits for, at the start of the buffer and as far as it reaches; what is past them stays.
+unfoldable pub awaitedInto : List ℕ → State → List ℕ → List ℕ → List ℕ
+awaitedInto t s order buffer = take (length buffer) (awaitedFrom base t s order) ++ drop (length order) buffer
+
+-- The bytes go over into those of the state that the order leads to, the answers stand in the one buffer, and how many each step waits for in the other.
+pub record Follows (t starts : List ℕ) (work : ℕ) (order before after lent told b c : List ℕ) : Type 0 where
+  pub follows : (s : State) → Lent b s → Followable t starts work s order (length before)
+      → Lent c (runFrom base t s order) × (after ≡ answeredFrom t s order before) × (told ≡ awaitedInto t s order lent)

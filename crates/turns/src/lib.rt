@@ -9,12 +9,7 @@ use bodies::end::end;
 use bodies::finish::finish;
 use bodies::repeat::repeat;
 use bodies::spawn::spawn;
-use fields::activities::depth_at;
-use fields::activities::status_at;
-use fields::counts::activities_of;
-use fields::frames::frame_at;
-use parts::checks::is_ended;
-use places::command_at;
+use look::look;
 use program::command::Command;
 use values::acc::acc;
 use values::atom::atom;
@@ -25,9 +20,8 @@ use values::offer::offer;
 use values::put::put;
 use values::read::read;
 use values::reset::reset;
-use waits::waiting::waits_at;
 
-mod look; // look.rt: numbers 14 to 16
+pub mod look; // look.rt: numbers 14 to 16, and how many an activity waits for
 pub mod ready; // ready.rt: the ready set
 pub mod sheet; // sheet.rt: the standing sheet
 pub mod follow; // follow.rt: an order of turns
@@ -64,26 +58,24 @@ fn carry_out(
     }
 }
 
+// What a turn answers, and how many its activity waits for.
+pub struct Reply {
+    pub number: u8,
+    pub awaited: u8,
+}
+
 // A turn of activity i, whichever number it is: numbers 14 to 17, or its step.
-pub fn turn(table: &[u8], starts: &[usize], work: u64, state: &mut [u8], i: usize) -> u8
+pub fn turn(table: &[u8], starts: &[usize], work: u64, state: &mut [u8], i: usize) -> Reply
     ensures { λ r. ⌜ TurnsAny (now (table .entry)) (now (starts .entry)) (now (state .entry)) (now (state .exit)) work i r ⌝ }
 {
-    let made = activities_of(state) as usize;
-    if made <= i {
-        return 14;
+    let seen = look(table, starts, state, i);
+    if seen.number != 0 {
+        return Reply {
+            number: seen.number,
+            awaited: seen.awaited,
+        };
     }
-    let status = status_at(state, i);
-    if is_ended(status) {
-        return 15;
-    }
-    let depth = depth_at(state, i) as usize;
-    if depth == 0 {
-        return 15;
-    }
-    let f = frame_at(state, i, depth - 1);
-    let command = command_at(table, starts, f);
-    if waits_at(table, starts, state, i, command) {
-        return 16;
-    }
-    carry_out(table, starts, work, state, i, command)
+    let command = seen.command;
+    let number = carry_out(table, starts, work, state, i, command);
+    Reply { number, awaited: 0 }
 }

@@ -1,6 +1,6 @@
 // The ready set.
 ghost use Rattle.turns.specs.Turns.{Readies};
-use super::look::look;
+use super::look::can_step;
 use fields::counts::activities_of;
 
 // Bit i for activity i, set where 14 to 16 do not apply.
@@ -14,7 +14,7 @@ pub fn ready_set(table: &[u8], starts: &[usize], state: &[u8]) -> u64
     let mut set: u64 = 0;
     let mut i: usize = 0;
     while i < made {
-        if look(table, starts, state, i) == 0 {
+        if can_step(table, starts, state, i) {
             set |= 1u64 << i;
         }
         i += 1;

@@ -32,7 +32,7 @@ loop-again : tie.Need-loop-again Inv-loop μ-loop
 loop-again c =
     let f = c .before in
     let k = f .before .before in
-    let g = f .look .ensures in
+    let g = f .can-step .ensures in
     let low : k .loop .i < 64 = omega arith in (
       omega arith,
       ⊎-elim (λ v. ready-set (k .loop .inv .1) low g (v .1) (v .0 .taken)) (λ v. ready-left (k .loop .inv .1) low g (v .1) (v .0 .left)) (c .if2 .came),
@@ -47,5 +47,5 @@ returns-2 c =
 pub ready-set-spec : {M : Type 1} → statement M
 ready-set-spec =
     tie.close
-    (tie.spec Inv-loop μ-loop (λ activities-of-requires κs. search needs) (λ cast-made. search needs) returns loop-holds (λ look-requires κs. search needs) shl-set add-i
+    (tie.spec Inv-loop μ-loop (λ activities-of-requires κs. search needs) (λ cast-made. search needs) returns loop-holds (λ can-step-requires κs. search needs) shl-set add-i
     loop-less loop-again returns-2)
