@@ -19,6 +19,7 @@ use Rattle.places.specs.Known.{Known}
 use Rattle.encoding.specs.Encode.{encodeState}
 use Rattle.encoding.specs.Decode.{encodes, stateOf}
 use Rattle.encoding.proofs.StateLaws.{encodeState-stateOf}
+use Rattle.turns.specs.declared.Reply.{Reply}
 use Rattle.turns.specs.Turns.{TurnsAny}
 use Rattle.wellformed.specs.Passing.{unfitBytes}
 use Rattle.calls.specs.Calls.{stepNumber, bytesAfter, stepBytes}
@@ -59,8 +60,8 @@ module _ (t b : List ℕ) (i : ℕ) {n : ℕ} (e : n ≡ unfitBytes (numberOf wo
       go false w = (rw w (number-none t b e w), rw w)
 
   -- The turn of a well-formed state.
-  pub step-turned : {starts c : List ℕ} {work r : ℕ} → n ≡ 0 → Bytes b → Known t starts → work ≡ workOf (programOf t) → work ≤ workLimit → TurnsAny t starts b c work i r
-      → (r ≡ stepNumber t b i) × (c ≡ stepBytes t b i)
+  pub step-turned : {starts c : List ℕ} {work : ℕ} {r : Reply} → n ≡ 0 → Bytes b → Known t starts → work ≡ workOf (programOf t) → work ≤ workLimit
+      → TurnsAny t starts b c work i r → (r .number ≡ stepNumber t b i) × (c ≡ stepBytes t b i)
   unfolding stepNumber
   step-turned z y known counted small m =
       let p = passed t b e z in

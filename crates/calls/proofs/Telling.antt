@@ -1,20 +1,22 @@
--- The ready set and the standing sheet: turned down by the check, or told of the lent bytes.
+-- The ready set, how many an activity waits for, and the standing sheet: turned down by the check, or told of the lent bytes.
 use Prim.Native.Nat.{ℕ}
 use mathlib.Core.Path.{_≡_, refl, sym, _∙_}
 use mathlib.Core.List.{List}
 use mathlib.Core.Bool.{Bool, true, false, cond}
 use lib.ListN.{length, replicate}
+use lib.Dec.{eqb}
 use borrow.Author.Tests.{eq-eqb, ne-eqb}
 use Rattle.program.specs.Bodies.{programOf}
 use Rattle.program.specs.Table.{workLimit, numberOf}
 use Rattle.program.proofs.Basic.{Bytes}
-use Rattle.rules.specs.Steps.{ready, noSheet, registrations, registrationsNumber}
+use Rattle.rules.specs.Steps.{ready, awaitedNumber, awaitedCount, noSheet, registrations, registrationsNumber}
 use Rattle.places.specs.Known.{Known}
 use Rattle.encoding.specs.Bytes.{encodeEach}
 use Rattle.encoding.specs.Decode.{encodes, stateOf}
-use Rattle.turns.specs.Turns.{Readies}
+use Rattle.turns.specs.declared.look.Seen.{Seen}
+use Rattle.turns.specs.Turns.{Looks, Readies}
 use Rattle.wellformed.specs.Passing.{unfitBytes}
-use Rattle.calls.specs.Calls.{lengthNumber, readyNumber, readySet, rowBytes, fitsSheet, rowsNumber, sheetNumber, sheetBytes}
+use Rattle.calls.specs.Calls.{lengthNumber, readyNumber, readySet, awaitsNumber, awaitsCount, rowBytes, fitsSheet, rowsNumber, sheetNumber, sheetBytes}
 use Rattle.calls.specs.Sheet.{Tells}
 use Rattle.calls.proofs.Lending.{lent-bytes}
 use Rattle.calls.proofs.Checking.{number-whole, number-none, passed}
@@ -43,6 +45,33 @@ module _ (t b : List ℕ) {n : ℕ} (e : n ≡ unfitBytes (numberOf workLimit t)
       let p = passed t b e z in
       let q = sym (number-whole t b e (p .whole)) ∙ z in
       (rw (p .whole, q), m .tells known (stateOf b) (lent-bytes b y (p .whole)) (p .formed) ∙ rw (p .whole, q))
+
+  -- HOW MANY IT WAITS FOR
+
+  -- Turned down: 0.
+  pub awaits-refused : (i : ℕ) → (n ≡ 0 → ⊥) → (n ≡ awaitsNumber t b i) × (0 ≡ awaitsCount t b i)
+  unfolding awaitsNumber awaitsCount awaitedNumber awaitedCount
+  awaits-refused i h = go (encodes b) refl
+    where
+      go : (x : Bool) → encodes b ≡ x → (n ≡ awaitsNumber t b i) × (0 ≡ awaitsCount t b i)
+      go true w = let q = number-whole t b e w in (rw (w, sym q, ne-eqb n 0 h), rw (w, sym q, ne-eqb n 0 h))
+      go false w = (rw w (number-none t b e w), rw w)
+
+  -- Told of a well-formed state: 16 is no number of this call.
+  module _ {i : ℕ} {starts : List ℕ} {r : Seen} (z : n ≡ 0) (y : Bytes b) (known : Known t starts) (m : Looks t starts b i r) where
+    told : (cond (eqb (r .number) 16) 0 (r .number) ≡ awaitsNumber t b i) × (r .awaited ≡ awaitsCount t b i)
+    unfolding awaitsNumber awaitsCount awaitedNumber awaitedCount
+    told =
+        let p = passed t b e z in
+        let q = sym (number-whole t b e (p .whole)) ∙ z in
+        let d = m .sees known (stateOf b) (lent-bytes b y (p .whole)) (p .formed) in
+        (rw (p .whole, q, d .number), rw (p .whole, q) (d .count))
+
+    pub awaits-waiting : r .number ≡ 16 → (0 ≡ awaitsNumber t b i) × (r .awaited ≡ awaitsCount t b i)
+    awaits-waiting h = let d = told in let g = eq-eqb (r .number) 16 h in (rw g at (d .0), d .1)
+
+    pub awaits-other : (r .number ≡ 16 → ⊥) → (r .number ≡ awaitsNumber t b i) × (r .awaited ≡ awaitsCount t b i)
+    awaits-other h = let d = told in let g = ne-eqb (r .number) 16 h in (rw g at (d .0), d .1)
 
   -- THE SHEET
 

@@ -2,13 +2,13 @@
 use Prim.Native.Nat.{ℕ}
 use mathlib.Core.List.{List, map, _++_}
 use mathlib.Core.Bool.{Bool, cond}
-use lib.ListN.{length, drop, replicate}
+use lib.ListN.{length, take, drop, replicate}
 use lib.Dec.{leb, eqb}
 use Rattle.program.specs.Table.{workLimit, numberOf}
 use Rattle.rules.specs.declared.answer.Stepped.{Stepped}
 use Rattle.rules.specs.State.{answerNumber}
-use Rattle.rules.specs.Steps.{base, start, step, ready, registrations, registrationsNumber}
-use Rattle.rules.specs.Runs.{isAccepted, run, answers}
+use Rattle.rules.specs.Steps.{base, start, step, ready, awaitedNumber, awaitedCount, registrations, registrationsNumber}
+use Rattle.rules.specs.Runs.{isAccepted, run, answers, awaiteds}
 use Rattle.encoding.specs.Bytes.{encodeEach}
 use Rattle.encoding.specs.Encode.{encodeState}
 use Rattle.encoding.specs.Decode.{encodes, stateOf}
@@ -65,6 +65,16 @@ readyNumber t b = cond (encodes b) (ready base t (stateOf b) .number) (unfitNumb
 unfoldable pub readySet : List ℕ → List ℕ → ℕ
 readySet t b = cond (encodes b) (ready base t (stateOf b) .set) 0
 
+-- AWAITED: how many activities activity i waits for
+
+-- 0 or 1 to 15; 13 for bytes that encode no state
+unfoldable pub awaitsNumber : List ℕ → List ℕ → ℕ → ℕ
+awaitsNumber t b i = cond (encodes b) (awaitedNumber base t (stateOf b) i) (unfitNumber t)
+
+-- The count of a refused call is 0.
+unfoldable pub awaitsCount : List ℕ → List ℕ → ℕ → ℕ
+awaitsCount t b i = cond (encodes b) (awaitedCount base t (stateOf b) i) 0
+
 -- REGISTRATIONS: the standing sheet, sixty-four rows of sixteen bytes, row by row
 
 -- a row's bytes are its entries
@@ -102,3 +112,11 @@ runAnswers t order buffer b =
 -- The state after the last step. A refused run leaves the bytes.
 unfoldable pub runBytes : List ℕ → List ℕ → ℕ → List ℕ → List ℕ
 runBytes t order room b = cond (eqb (runNumber t order room b) 0) (encodeState (run base t order)) b
+
+-- TRACE: a run that tells how many each step waits for
+
+-- A byte for each step, as far as the buffer reaches; what is past them stays. A refused run leaves the buffer as it was.
+unfoldable pub traceCounts : List ℕ → List ℕ → ℕ → List ℕ → List ℕ → List ℕ
+traceCounts t order room counts b =
+    let filled = take (length counts) (awaiteds base t order) ++ drop (length order) counts in
+    cond (eqb (runNumber t order room b) 0) filled counts

@@ -2,11 +2,12 @@
 // The table's number 1 to 12 comes first; bytes that encode no state give 13; then a buffer of another length than the call needs gives 255.
 ghost use mathlib.Core.Path.{_≡_};
 ghost use lib.ListN.{length};
-ghost use Rattle.calls.specs.Calls.{startNumber, startBytes, stepNumber, stepBytes, readyNumber, readySet, sheetNumber, sheetBytes, runNumber, runAnswers, runBytes};
+ghost use Rattle.calls.specs.Calls.{startNumber, startBytes, stepNumber, stepBytes, readyNumber, readySet, awaitsNumber, awaitsCount, sheetNumber, sheetBytes, runNumber, runAnswers, runBytes, traceCounts};
 use begin::put_none;
 use begin::put_start;
 use program::table::read_table;
 use turns::follow::follow;
+use turns::look::look;
 use turns::ready::ready_set;
 use turns::turn;
 use wellformed::check_state;
@@ -46,7 +47,8 @@ pub fn step(table: &[u8], state: &mut [u8], activity: usize) -> u8
     let known = checked.table;
     let layout = known.layout;
     let starts = layout.starts;
-    turn(table, &starts, known.work, state, activity)
+    let done = turn(table, &starts, known.work, state, activity);
+    done.number
 }
 
 // Who can step, bit i for activity i. The set of a refused call is 0.
@@ -64,6 +66,27 @@ pub fn ready(table: &[u8], state: &[u8], set: &mut u64) -> u8
     let starts = layout.starts;
     *set = ready_set(table, &starts, state);
     0
+}
+
+// How many activities an activity waits for. The count of a refused call is 0.
+pub fn awaited(table: &[u8], state: &[u8], activity: usize, count: &mut u8) -> u8
+    ensures { λ r. ⌜ (r ≡ awaitsNumber (now (table .entry)) (now (state .entry)) activity) × (now (count .exit) ≡ awaitsCount (now (table .entry)) (now (state .entry)) activity) ⌝ }
+{
+    let checked = check_state(table, state);
+    let number = checked.number;
+    if number != 0 {
+        *count = 0;
+        return number;
+    }
+    let known = checked.table;
+    let layout = known.layout;
+    let starts = layout.starts;
+    let seen = look(table, &starts, state, activity);
+    *count = seen.awaited;
+    if seen.number == 16 {
+        return 0;
+    }
+    seen.number
 }
 
 // The standing sheet of the state in the buffer, 1,024 bytes, row by row. The sheet of a refused call is zeros; another room for it stays as it was.
@@ -89,6 +112,23 @@ pub fn run(table: &[u8], order: &[u8], answers: &mut [u8], state: &mut [u8]) -> 
     ensures { λ _. ⌜ now (answers .exit) ≡ runAnswers (now (table .entry)) (now (order .entry)) (now (answers .entry)) (now (state .entry)) ⌝ }
     ensures { λ _. ⌜ now (state .exit) ≡ runBytes (now (table .entry)) (now (order .entry)) (length (now (answers .entry))) (now (state .entry)) ⌝ }
 {
+    let mut counts = [0u8; 1];
+    trace(table, order, answers, &mut counts, state)
+}
+
+// The same, and how many each step waits for, as far as the buffer for it reaches. A refused run leaves the three buffers as they were.
+pub fn trace(
+    table: &[u8],
+    order: &[u8],
+    answers: &mut [u8],
+    counts: &mut [u8],
+    state: &mut [u8],
+) -> u8
+    ensures { λ r. ⌜ r ≡ runNumber (now (table .entry)) (now (order .entry)) (length (now (answers .entry))) (now (state .entry)) ⌝ }
+    ensures { λ _. ⌜ now (answers .exit) ≡ runAnswers (now (table .entry)) (now (order .entry)) (now (answers .entry)) (now (state .entry)) ⌝ }
+    ensures { λ _. ⌜ now (counts .exit) ≡ traceCounts (now (table .entry)) (now (order .entry)) (length (now (answers .entry))) (now (counts .entry)) (now (state .entry)) ⌝ }
+    ensures { λ _. ⌜ now (state .exit) ≡ runBytes (now (table .entry)) (now (order .entry)) (length (now (answers .entry))) (now (state .entry)) ⌝ }
+{
     let read = read_table(table);
     let number = read.number;
     if number != 0 {
@@ -103,6 +143,6 @@ pub fn run(table: &[u8], order: &[u8], answers: &mut [u8], state: &mut [u8]) -> 
     let layout = read.layout;
     let starts = layout.starts;
     put_start(state);
-    follow(table, &starts, read.work, order, answers, state);
+    follow(table, &starts, read.work, order, answers, counts, state);
     0
 }

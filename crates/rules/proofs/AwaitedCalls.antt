@@ -4,7 +4,7 @@ use Prim.Native.Nat.{ℕ, _+_, _≤_}
 use native.Mathlib.Omega.{arith}
 use mathlib.Core.List.{List, [], _∷_, map}
 use mathlib.Core.Bool.{Bool, true, false, cond}
-use mathlib.Core.Path.{_≡_, refl, sym, _∙_}
+use mathlib.Core.Path.{_≡_, refl, sym, ap, _∙_}
 use lib.Dec.{ltb, eqb}
 use borrow.Author.Tests.{eqb-true, ne-eqb}
 use Rattle.program.specs.Bodies.{Program, programOf}
@@ -20,9 +20,10 @@ use Rattle.rules.specs.declared.answer.Answer.the-variants.{Accepted, Re
 use Rattle.rules.specs.State.{faultNumber, statusAnswer, answerNumber}
 use Rattle.rules.specs.Effects.{applied}
 use Rattle.rules.specs.WellFormed.{wellFormed}
-use Rattle.rules.specs.Steps.{Limits, awaited, effect, refusal, exceeds, stepped, advance, unfit, stepWith, step, awaitedCount}
-use Rattle.rules.specs.Runs.{answersFrom, awaitedFrom}
+use Rattle.rules.specs.Steps.{Limits, awaited, effect, refusal, exceeds, stepped, advance, unfit, stepWith, step, startState, awaitedCount}
+use Rattle.rules.specs.Runs.{answersFrom, awaitedFrom, awaiteds}
 use Rattle.rules.proofs.Awaited.{awaited-zero}
+use Rattle.rules.proofs.Calls.{start-taken}
 
 fault-other : (f : Fault) → eqb (100 + faultNumber f) 16 ≡ false
 fault-other F1 = refl
@@ -75,3 +76,8 @@ module _ (l : Limits) (t : List ℕ) where
   unfolding awaitedFrom answersFrom
   awaited-answers s [] = refl
   awaited-answers s (i ∷ order) = rw (awaited-answer s i, awaited-answers (step l t s i .state) order)
+
+  -- From the start state of an accepted table on.
+  pub awaiteds-start : numberOf (l .work) t ≡ 0 → (order : List ℕ) → awaiteds l t order ≡ awaitedFrom l t startState order
+  unfolding awaiteds
+  awaiteds-start n order = ap (λ (s : State). awaitedFrom l t s order) (start-taken l t n)
