@@ -1,7 +1,7 @@
 // The machine's calls under their C names, for a host in C or Rust; `calls` has what each answers and leaves.
 ghost use mathlib.Core.Path.{_≡_};
 ghost use lib.ListN.{length};
-ghost use Rattle.calls.specs.Calls.{startNumber, startBytes, stepNumber, stepBytes, readyNumber, readySet, sheetNumber, sheetBytes, runNumber, runAnswers, runBytes};
+ghost use Rattle.calls.specs.Calls.{startNumber, startBytes, stepNumber, stepBytes, readyNumber, readySet, awaitsNumber, awaitsCount, sheetNumber, sheetBytes, runNumber, runAnswers, runBytes};
 
 mod lists; // lists.rt: tables from lists of commands, and back
 
@@ -27,6 +27,19 @@ pub extern "C" fn stepmachine_ready(table: &[u8], state: &[u8], set: &mut u64) -
     ensures { λ r. ⌜ (r ≡ readyNumber (now (table .entry)) (now (state .entry))) × (now (set .exit) ≡ readySet (now (table .entry)) (now (state .entry))) ⌝ }
 {
     calls::ready(table, state, set)
+}
+
+// How many activities an activity waits for. The count of a refused call is 0.
+#[no_mangle]
+pub extern "C" fn stepmachine_awaited(
+    table: &[u8],
+    state: &[u8],
+    activity: usize,
+    count: &mut u8,
+) -> u8
+    ensures { λ r. ⌜ (r ≡ awaitsNumber (now (table .entry)) (now (state .entry)) activity) × (now (count .exit) ≡ awaitsCount (now (table .entry)) (now (state .entry)) activity) ⌝ }
+{
+    calls::awaited(table, state, activity, count)
 }
 
 // The standing sheet of the state in the buffer, 1,024 bytes, row by row. The sheet of a refused call is zeros; another room for it stays as it was.

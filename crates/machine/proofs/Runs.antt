@@ -2,10 +2,10 @@
 use Prim.Native.Nat.{ℕ}
 use native.Mathlib.Omega.{arith}
 use mathlib.Core.Path.{_≡_, refl, sym, _∙_}
-use mathlib.Core.List.{List}
+use mathlib.Core.List.{List, _++_}
 use mathlib.Core.Bool.{Bool, true, false, cond}
 use lib.Dec.{leb, eqb}
-use lib.ListN.{length}
+use lib.ListN.{length, take, drop}
 use borrow.Author.Tests.{eq-eqb, ne-eqb}
 use Rattle.program.specs.Table.{workLimit, numberOf}
 use Rattle.program.proofs.Basic.{Bytes}
@@ -15,14 +15,14 @@ use Rattle.rules.specs.declared.answer.Completion.the-variants as completion
 use Rattle.rules.specs.State.{zeroState}
 use Rattle.rules.specs.Steps.{base}
 use Rattle.rules.specs.Demand3.{AtEveryPoint}
-use Rattle.rules.specs.Runs.{run}
+use Rattle.rules.specs.Runs.{run, awaiteds}
 use Rattle.rules.proofs.Tests.{true-false}
 use Rattle.rules.proofs.Demand3.{at-every-point}
 use Rattle.encoding.specs.declared.Decoded.{Decoded}
 use Rattle.encoding.specs.Decode.{decodedOf}
 use Rattle.fits.proofs.Fitting.{run-fits}
-use Rattle.calls.specs.Calls.{tableFirst, fitsState, runNumber, runAnswers, runBytes}
-use Rattle.machine.specs.Ran.{ranOf, answered, Runs}
+use Rattle.calls.specs.Calls.{tableFirst, fitsState, runNumber, runAnswers, runBytes, traceCounts}
+use Rattle.machine.specs.Ran.{ranOf, answered, awaitedBy, Runs}
 use Rattle.machine.proofs.Values.{decoded}
 
 module _ (t order before own : List ℕ) {after c : List ℕ} {n : ℕ} (long : length own ≡ 13776) (e : n ≡ runNumber t order (length before) own)
@@ -80,3 +80,17 @@ module _ (t order before own : List ℕ) {after c : List ℕ} {n : ℕ} (long : 
       go true a true b = record { result = rw (ran y z o, a, b); buffer = f ∙ rw (sym e ∙ z, a, b); demand = demanded }
       go true a false b = let k : _≡_ {A = ℕ} 0 255 = sym z ∙ by-room ∙ rw (a, b) in absurd (omega arith)
       go false a w b = absurd (true-false _ (eq-eqb (numberOf workLimit t) 0 (sym (by-room ∙ rw a) ∙ z)) a)
+
+-- How many each step waits for, in the second buffer.
+pub told-by : (t order before counts own : List ℕ) {told : List ℕ} → length own ≡ 13776 → told ≡ traceCounts t order (length before) counts own
+    → told ≡ awaitedBy t order (length before) counts
+unfolding traceCounts awaitedBy runNumber tableFirst fitsState
+told-by t order before counts own long e = e ∙ rw (eq-eqb (length own) 13776 long) (go (numberOf workLimit t) (eqb (numberOf workLimit t) 0) refl (leb (length order) (length before)))
+  where
+    filled : List ℕ
+    filled = take (length counts) (awaiteds base t order) ++ drop (length order) counts
+
+    go : (n : ℕ) (x : Bool) → eqb n 0 ≡ x → (y : Bool) → cond (eqb (cond x (cond y 0 255) n) 0) filled counts ≡ cond x (cond y filled counts) counts
+    go n true a true = refl
+    go n true a false = refl
+    go n false a y = rw a

@@ -1,7 +1,7 @@
 // The machine's calls by value: start, one step, the ready set, the standing sheet and whole runs. Each is the call in place, in bytes of its own.
 ghost use mathlib.Core.Path.{_≡_};
 ghost use Rattle.rules.specs.Steps.{base, start, step, ready, registrations, registrationsNumber};
-ghost use Rattle.machine.specs.Ran.{Runs};
+ghost use Rattle.machine.specs.Ran.{Runs, Traces};
 ghost use Rattle.machine.specs.Numbers.{isRefusal, answerOf};
 use after::activity_in;
 use after::entry_of;
@@ -119,8 +119,16 @@ pub fn registrations(table: &[u8], s: State, number: &mut u8) -> [[u8; 16]; 64]
 pub fn run(table: &[u8], order: &[u8], answers: &mut [u8]) -> Ran
     ensures { λ r. ⌜ Runs (now (table .entry)) (now (order .entry)) (now (answers .entry)) (now (answers .exit)) r ⌝ }
 {
+    let mut counts = [0u8; 1];
+    trace(table, order, answers, &mut counts)
+}
+
+// The same, and how many each step waits for into a second buffer, as far as it reaches.
+pub fn trace(table: &[u8], order: &[u8], answers: &mut [u8], counts: &mut [u8]) -> Ran
+    ensures { λ r. ⌜ Traces (now (table .entry)) (now (order .entry)) (now (answers .entry)) (now (answers .exit)) (now (counts .entry)) (now (counts .exit)) r ⌝ }
+{
     let mut bytes = [0u8; 13776];
-    let number = calls::run(table, order, answers, &mut bytes);
+    let number = calls::trace(table, order, answers, counts, &mut bytes);
     if number == 255 {
         return Ran {
             completion: Completion::Short,
