@@ -1,4 +1,3 @@
-pub mod Counting
 mod Enough
 mod Example
 pub mod Parts

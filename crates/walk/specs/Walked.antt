@@ -10,16 +10,16 @@ use Rattle.program.specs.Table.{workLimit, numberOf}
 use Rattle.rules.specs.declared.state.State.{State}
 use Rattle.rules.specs.Search.{countBelow}
 use Rattle.rules.specs.State.{answerNumber, ended}
-use Rattle.rules.specs.Steps.{base, start, step}
+use Rattle.rules.specs.Steps.{base, start, step, awaitedCount}
 use Rattle.rules.specs.Runs.{run}
 use Rattle.lines.specs.Text.{headerOf, lineOf, totalOf, refusedOf}
 
--- The lines of the steps from a state on, after so many lines.
+-- The lines of the steps from a state on, after so many lines; "a walk line with 16 now ends with a blank and this number".
 unfoldable pub linesOf : List ℕ → ℕ → State → List ℕ → List ℕ
 linesOf t line s [] = []
 linesOf t line s (i ∷ order) =
     let done = step base t s i in
-    lineOf (line + 1) i (answerNumber (done .answer)) (done .state .steps) ++ linesOf t (line + 1) (done .state) order
+    lineOf (line + 1) i (answerNumber (done .answer)) (done .state .steps) (awaitedCount base t s i) ++ linesOf t (line + 1) (done .state) order
 
 -- The total of a state.
 unfoldable pub totalIn : List ℕ → State → List ℕ

@@ -12,8 +12,9 @@ use print::print_lines;
 use program::table::read_table;
 
 // Prints the number for which the table is turned down, or the walk: specs/Walked.antt says what, proofs/Printed.antt that the pieces joined are that.
-fn walk(job: &[u8], order: &[u8], out: &mut [u8], answers: &mut [u8])
+fn walk(job: &[u8], order: &[u8], out: &mut [u8], answers: &mut [u8], counts: &mut [u8])
     requires { ⌜ length (now order) ≤ length (now answers) ⌝ }
+    requires { ⌜ length (now order) ≤ length (now counts) ⌝ }
     requires { ⌜ 128 ≤ length (now out) ⌝ }
 {
     let found = read_table(job);
@@ -23,11 +24,11 @@ fn walk(job: &[u8], order: &[u8], out: &mut [u8], answers: &mut [u8])
         flush(out, end);
         return;
     }
-    let ran = machine::run(job, order, answers);
+    let ran = machine::trace(job, order, answers, counts);
     let state = ran.state;
     let headed = lines::put_header(out, 0);
     flush(out, headed);
-    print_lines(out, order, answers);
+    print_lines(out, order, answers, counts);
     let end = put_ending(out, found.work, state);
     flush(out, end);
 }
@@ -38,7 +39,14 @@ fn main() {
     let mut order = [0u8; 65535];
     let mut out = io::large_buffer();
     let mut answers = io::large_buffer();
+    let mut counts = io::large_buffer();
     let table = files::read_file(b"JOB", &mut job);
     let steps = files::read_file(b"ORDER", &mut order);
-    walk(&job[..table], &order[..steps], &mut out, &mut answers);
+    walk(
+        &job[..table],
+        &order[..steps],
+        &mut out,
+        &mut answers,
+        &mut counts,
+    );
 }

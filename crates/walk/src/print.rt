@@ -12,14 +12,15 @@ pub fn flush(out: &[u8], end: usize) {
 }
 
 // Writes the lines, as many at a time as the buffer holds, until none is left, and answers how many there were.
-pub fn print_lines(out: &mut [u8], order: &[u8], answers: &[u8]) -> usize
+pub fn print_lines(out: &mut [u8], order: &[u8], answers: &[u8], counts: &[u8]) -> usize
     requires { ⌜ length (now order) ≤ length (now answers) ⌝ }
+    requires { ⌜ length (now order) ≤ length (now counts) ⌝ }
     requires { ⌜ 128 ≤ length (now out) ⌝ }
     ensures { λ r. ⌜ r ≡ length (now (order .entry)) ⌝ }
 {
     let mut line: usize = 0;
     while line < order.len() {
-        let page = put_page(out, order, answers, line);
+        let page = put_page(out, order, answers, counts, line);
         flush(out, page.end);
         line = page.line;
     }

@@ -6,7 +6,7 @@ use borrow.Author.Needs.{needs}
 use borrow.Author.Tests.{ltb-true, ltb-false}
 use Rattle.rules.specs.State.{ended}
 use Rattle.rules.specs.Search.{countBelow}
-use Rattle.walk.proofs.Counting.{counted, uncounted, last}
+use Rattle.rules.proofs.Counting.{counted, uncounted, last}
 use Rattle.walk.proofs.counts.ended.Statement.{statement}
 use Rattle.walk.proofs.counts.ended.Tie as tie
 

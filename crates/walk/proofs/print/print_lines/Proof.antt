@@ -8,10 +8,10 @@ use Rattle.walk.proofs.print.print_lines.Statement.{statement}
 use Rattle.walk.proofs.print.print_lines.Tie as tie
 
 abbrev Inv-loop : tie.InvT-loop
-Inv-loop out₀ order answers line₀ out line = (line ≤ length order) × (length out ≡ length out₀)
+Inv-loop out₀ order answers counts line₀ out line = (line ≤ length order) × (length out ≡ length out₀)
 
 abbrev μ-loop : tie.MeasureT-loop
-μ-loop out₀ order answers line₀ out line = length order - line
+μ-loop out₀ order answers counts line₀ out line = length order - line
 
 loop-holds : tie.Need-loop-holds Inv-loop μ-loop
 loop-holds c = (omega arith, refl)
@@ -26,7 +26,7 @@ loop-less : tie.Need-loop-less Inv-loop μ-loop
 loop-less c =
     let at = c .before .before .before .before .before .before .before in
     let page = c .before .before .before .before .put-page .ensures in
-    omega (arith, page .goes (c .before .before .before .before .before .before .loop-test .taken) (omega arith) (omega (arith, at .loop .inv .1)), page .within (at .loop .inv .0))
+    omega (arith, page .goes (c .before .before .before .before .before .before .loop-test .taken) (omega arith) (omega arith) (omega (arith, at .loop .inv .1)), page .within (at .loop .inv .0))
 
 loop-again : tie.Need-loop-again Inv-loop μ-loop
 loop-again c =
