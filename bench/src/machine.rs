@@ -8,6 +8,7 @@ pub const LENGTH: usize = 13_776;
 
 extern "C" {
     fn stepmachine_step(table: *const u8, n: usize, state: *mut u8, m: usize, activity: usize) -> u8;
+    fn stepmachine_ready(table: *const u8, n: usize, state: *const u8, m: usize, set: *mut u64) -> u8;
     fn stepmachine_run(
         table: *const u8, n: usize, order: *const u8, k: usize, answers: *mut u8, room: usize, state: *mut u8, m: usize,
     ) -> u8;
@@ -20,6 +21,11 @@ extern "C" {
 /// A step of the state in the buffer.
 pub fn step(table: &[u8], state: &mut [u8], activity: usize) -> u8 {
     unsafe { stepmachine_step(table.as_ptr(), table.len(), state.as_mut_ptr(), state.len(), activity) }
+}
+
+/// Who can step.
+pub fn ready(table: &[u8], state: &[u8], set: &mut u64) -> u8 {
+    unsafe { stepmachine_ready(table.as_ptr(), table.len(), state.as_ptr(), state.len(), set) }
 }
 
 /// A run from the start state.

@@ -5,6 +5,7 @@ mod lent;
 mod lists;
 mod machine;
 mod measure;
+mod meetings;
 mod plot;
 mod tables;
 
@@ -73,12 +74,22 @@ fn readings() {
     }
 }
 
+/// The ready set of sixty-four, printed.
+fn ready_sets() {
+    println!("\nnanoseconds a ready set of sixty-four activities, the others having arrived at a meeting");
+    println!("{:<42} {:>10} {:>10} {:>7}", "state", "machine", "reference", "ratio");
+    for (name, pace) in meetings::paces() {
+        println!("{name:<42} {:>10.0} {:>10.0} {:>7.2}", pace.machine, pace.reference, pace.ratio());
+    }
+}
+
 fn main() {
     let file = std::env::args().nth(1).expect("the file to draw to");
     println!("nanoseconds a step, medians; machine and reference in turn");
     grown([1, 8, 64].into_iter().flat_map(|n| [(n, SHORT), (n, LONG)]));
     calls();
     readings();
+    ready_sets();
     println!("\nas the activities grow");
     let activities = grown(ACTIVITIES.into_iter().map(|n| (n, SHORT)));
     println!("\nas the table grows");

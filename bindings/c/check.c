@@ -57,17 +57,20 @@ static void take(size_t steps)
 
 /* BUFFERS THAT DO NOT SERVE */
 
-/* Step, ready set and sheet answer the number. The state stays; the set is 0, the sheet zeros. */
+/* Step, ready set, count and sheet answer the number. The state stays; the set and the count are 0, the sheet zeros. */
 static void refuse(const uint8_t *job, size_t job_bytes, size_t bytes, unsigned number, const char *name, size_t which)
 {
     static const uint8_t none[SHEET] = {0};
     uint8_t sheet[SHEET];
     uint64_t set = 77;
+    uint8_t count = 77;
     memset(sheet, 0x5A, SHEET);
     check(stepmachine_step(job, job_bytes, state, bytes, 0) == number, name, which);
     check(stepmachine_ready(job, job_bytes, state, bytes, &set) == number, name, which);
+    check(stepmachine_awaited(job, job_bytes, state, bytes, 0, &count) == number, name, which);
     check(stepmachine_registrations(job, job_bytes, state, bytes, sheet, SHEET) == number, name, which);
-    check(kept() && set == 0 && memcmp(sheet, none, SHEET) == 0, "the state is left, the set is 0, the sheet zeros", which);
+    check(kept() && set == 0 && count == 0 && memcmp(sheet, none, SHEET) == 0, "the state is left, the set and the count are 0, the sheet zeros",
+          which);
 }
 
 /* The table's number comes before 13. */
@@ -152,6 +155,38 @@ static void ready(size_t point)
     }
 }
 
+/* The call answers 14 and 15 as the step does, and 0 in place of 16, where the count is not 0. */
+static void awaited(size_t point)
+{
+    static uint8_t copy[STATE];
+    size_t i;
+    for (i = 0; i < 66; i++) {
+        uint8_t count = 77;
+        unsigned step, answer = stepmachine_awaited(table, sizeof table, state, STATE, i, &count);
+        memcpy(copy, state, STATE);
+        step = stepmachine_step(table, sizeof table, copy, STATE, i);
+        check(answer == (step == 14 || step == 15 ? step : 0), "the number of one who waits or can step is 0", i);
+        check((count != 0) == (step == 16) && kept(), "the count is 0 exactly where the step does not answer 16", point);
+    }
+}
+
+/* Main waits at a meeting for three children, one of them behind on two clocks, and not for one without a clock; then for two and for one. */
+static void counts(void)
+{
+    static const uint8_t job[] = {0x02, 0x02, 0x03, 0x02, 0x05, 0x05, 0x01, 0x08, 0x05, 0x01, 0x20, 0x05, 0x01, 0x28, 0x05, 0x01, 0x00, 0x01, 0x00, 0x01, 0x00};
+    static const struct { uint8_t activity, count; } row[] = {{0, 3}, {2, 2}, {1, 1}, {3, 0}};
+    uint8_t count = 77;
+    size_t k;
+    check(stepmachine_start(job, sizeof job, state, STATE) == 0, "the start of five", 0);
+    for (k = 0; k < 6; k++)
+        stepmachine_step(job, sizeof job, state, STATE, 0);
+    for (k = 0; k < 4; k++) {
+        check(stepmachine_step(job, sizeof job, state, STATE, row[k].activity) == 0, "arrives", k);
+        check(stepmachine_awaited(job, sizeof job, state, STATE, 0, &count) == 0 && count == row[k].count, "as many are behind", k);
+    }
+    check(stepmachine_awaited(job, sizeof job, state, STATE, 5, &count) == 14 && count == 0, "nobody was spawned", 5);
+}
+
 /* The printed table, one step a call. */
 static void steps(void)
 {
@@ -160,6 +195,7 @@ static void steps(void)
     take(0);
     for (k = 0; k < sizeof order; k++) {
         ready(k);
+        awaited(k);
         answer = step(order[k]);
         check(answer == expected[k], "the answer of a line of the printed table", k + 1);
         check(kept() == (answer != 0), "a refused step leaves every byte, a taken one does not", k + 1);
@@ -256,6 +292,7 @@ int main(void)
     steps();
     example();
     fault();
+    counts();
     sheet();
     sheet_rooms();
     for (k = 0; k <= sizeof order; k++)

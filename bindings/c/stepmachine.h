@@ -5,8 +5,8 @@
    in that has another length, or bytes that encode no state, give 13. Then a buffer for what the call writes that has another length than
    it needs gives 255, and every lent byte stays as it was.
 
-   A refused start writes the state of zeros, a refused ready set is 0, a refused sheet is zeros, each where the buffer has the right
-   length. Every other refused call leaves every lent byte as it was.
+   A refused start writes the state of zeros, a refused ready set is 0, a refused count is 0, a refused sheet is zeros, each where the
+   buffer has the right length. Every other refused call leaves every lent byte as it was.
 
    A list of commands is entries of 5 bytes, one after the other: the command byte, its operand bytes as they stand in a table
    (PUT's value lowest byte first), then bytes that the command lacks. The k commands of an ATOM are entries of their own after it. `count` is entries, not bytes: of an array
@@ -39,6 +39,11 @@ uint8_t stepmachine_step(const uint8_t *table, size_t table_bytes, uint8_t *stat
 
 /* Who can step: bit i for activity i; 0 where the call is refused. */
 uint8_t stepmachine_ready(const uint8_t *table, size_t table_bytes, const uint8_t *state, size_t state_bytes, uint64_t *set);
+
+/* How many activities an activity waits for: where the answer is 0, 0 for one that can step, else as many as a step answered with 16 waits
+   for. Answers 0 or 1 to 15; the count is 0 where the call is refused. */
+uint8_t stepmachine_awaited(const uint8_t *table, size_t table_bytes, const uint8_t *state, size_t state_bytes, size_t activity,
+                            uint8_t *count);
 
 /* The standing sheet: 64 rows of 16 bytes, by activity and clock number; zeros where the call is refused. Another length of the sheet gives
    255. */

@@ -16,6 +16,7 @@ int main(void)
 {
     unsigned answer = stepmachine_start(table, sizeof table, state, sizeof state);
     unsigned ended = 0;
+    uint8_t count = 0;
     size_t k;
     if (answer != 0) {
         printf("table %u\n", answer);
@@ -24,7 +25,10 @@ int main(void)
     printf("line act answer taken\n");
     for (k = 0; k < sizeof order; k++) {
         answer = stepmachine_step(table, sizeof table, state, sizeof state, order[k]);
-        printf("%u %u %u %lu\n", (unsigned)k + 1, (unsigned)order[k], answer, taken());
+        printf("%u %u %u %lu", (unsigned)k + 1, (unsigned)order[k], answer, taken());
+        if (answer == 16 && stepmachine_awaited(table, sizeof table, state, sizeof state, order[k], &count) == 0)
+            printf(" %u", (unsigned)count);
+        printf("\n");
     }
     for (k = 0; k < state[1]; k++)
         ended += state[464 + 208 * k + 4] >= 2;

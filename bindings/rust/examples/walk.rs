@@ -19,7 +19,11 @@ fn main() {
     println!("line act answer taken");
     for (k, &activity) in ORDER.iter().enumerate() {
         let answer = stepmachine::step(&TABLE, &mut state, activity as usize);
-        println!("{} {activity} {answer} {}", k + 1, taken(&state));
+        print!("{} {activity} {answer} {}", k + 1, taken(&state));
+        match stepmachine::awaited(&TABLE, &state, activity as usize) {
+            Ok(count) if answer == 16 => println!(" {count}"),
+            _ => println!(),
+        }
     }
     let spawned = state[1] as usize;
     let ended = (0..spawned).filter(|i| state[464 + 208 * i + 4] >= 2).count();

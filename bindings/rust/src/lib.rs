@@ -23,6 +23,9 @@ mod calls {
         pub fn stepmachine_start(table: *const u8, table_bytes: usize, state: *mut u8, state_bytes: usize) -> u8;
         pub fn stepmachine_step(table: *const u8, table_bytes: usize, state: *mut u8, state_bytes: usize, activity: usize) -> u8;
         pub fn stepmachine_ready(table: *const u8, table_bytes: usize, state: *const u8, state_bytes: usize, set: *mut u64) -> u8;
+        pub fn stepmachine_awaited(
+            table: *const u8, table_bytes: usize, state: *const u8, state_bytes: usize, activity: usize, count: *mut u8,
+        ) -> u8;
         pub fn stepmachine_registrations(
             table: *const u8, table_bytes: usize, state: *const u8, state_bytes: usize, sheet: *mut u8, sheet_bytes: usize,
         ) -> u8;
@@ -53,6 +56,17 @@ pub fn ready(table: &[u8], state: &State) -> Result<u64, u8> {
     let mut set = 0;
     match unsafe { calls::stepmachine_ready(table.as_ptr(), table.len(), state.as_ptr(), state.len(), &mut set) } {
         0 => Ok(set),
+        number => Err(number),
+    }
+}
+
+/// How many activities an activity waits for, 0 for one that can step; or the number for which the call is refused, 1 to 15.
+pub fn awaited(table: &[u8], state: &State, activity: usize) -> Result<u8, u8> {
+    let mut count = 0;
+    match unsafe {
+        calls::stepmachine_awaited(table.as_ptr(), table.len(), state.as_ptr(), state.len(), activity, &mut count)
+    } {
+        0 => Ok(count),
         number => Err(number),
     }
 }

@@ -1,7 +1,7 @@
 // What each call answers and leaves, on document 01's printed table.
 #![forbid(unsafe_code)]
 
-use stepmachine::{ready, registrations, run, start, step, State, VERSION};
+use stepmachine::{awaited, ready, registrations, run, start, step, State, VERSION};
 
 const TABLE: [u8; 10] = [0x02, 0x02, 0x00, 0x05, 0x01, 0x01, 0x01, 0x00, 0x01, 0x00];
 const ORDER: [u8; 10] = [0, 0, 0, 0, 1, 0, 0, 1, 1, 0];
@@ -48,9 +48,44 @@ fn bytes_that_encode_no_state_give_13() {
     assert!(state == before);
     assert_eq!(ready(&TABLE, &state), Err(13));
     assert_eq!(ready(&REFUSED, &state), Err(2));
+    assert_eq!(awaited(&TABLE, &state, 0), Err(13));
+    assert_eq!(awaited(&REFUSED, &state, 0), Err(2));
     let mut sheet = [7; 1024];
     assert_eq!(registrations(&TABLE, &state, &mut sheet), 13);
     assert!(sheet == [0; 1024]);
+}
+
+#[test]
+fn who_is_answered_with_16_waits_for_somebody() {
+    for steps in 0..=ORDER.len() {
+        let state = after(steps);
+        for activity in (0..66).chain([usize::MAX]) {
+            let expected = match step(&TABLE, &mut state.clone(), activity) {
+                16 => Ok(1),
+                number @ (14 | 15) => Err(number),
+                _ => Ok(0),
+            };
+            assert_eq!(awaited(&TABLE, &state, activity), expected, "activity {activity} after {steps} steps");
+        }
+    }
+}
+
+// A FINISH of two children: both, one, none.
+#[test]
+fn the_count_falls_as_those_inside_end() {
+    let table = [0x03, 0x06, 0x01, 0x00, 0x05, 0x02, 0x00, 0x05, 0x02, 0x00, 0x00, 0x00];
+    let mut state = [0; 13776];
+    assert_eq!(start(&table, &mut state), 0);
+    for _ in 0..3 {
+        assert_eq!(step(&table, &mut state, 0), 0);
+    }
+    for (child, count) in [(1, 2), (2, 1)] {
+        assert_eq!(step(&table, &mut state, 0), 16);
+        assert_eq!(awaited(&table, &state, 0), Ok(count));
+        assert_eq!(step(&table, &mut state, child), 0);
+    }
+    assert_eq!(awaited(&table, &state, 0), Ok(0));
+    assert_eq!(step(&table, &mut state, 0), 0);
 }
 
 #[test]
