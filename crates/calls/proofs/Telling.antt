@@ -13,7 +13,7 @@ use Rattle.rules.specs.Steps.{ready, awaitedNumber, awaitedCount, noSheet, regi
 use Rattle.places.specs.Known.{Known}
 use Rattle.encoding.specs.Bytes.{encodeEach}
 use Rattle.encoding.specs.Decode.{encodes, stateOf}
-use Rattle.turns.specs.declared.look.Seen.{Seen}
+use Rattle.turns.specs.declared.Reply.{Reply}
 use Rattle.turns.specs.Turns.{Looks, Readies}
 use Rattle.wellformed.specs.Passing.{unfitBytes}
 use Rattle.calls.specs.Calls.{lengthNumber, readyNumber, readySet, awaitsNumber, awaitsCount, rowBytes, fitsSheet, rowsNumber, sheetNumber, sheetBytes}
@@ -58,7 +58,7 @@ module _ (t b : List ℕ) {n : ℕ} (e : n ≡ unfitBytes (numberOf workLimit t)
       go false w = (rw w (number-none t b e w), rw w)
 
   -- Told of a well-formed state: 16 is no number of this call.
-  module _ {i : ℕ} {starts : List ℕ} {r : Seen} (z : n ≡ 0) (y : Bytes b) (known : Known t starts) (m : Looks t starts b i r) where
+  module _ {i : ℕ} {starts : List ℕ} {r : Reply} (z : n ≡ 0) (y : Bytes b) (known : Known t starts) (m : Looks t starts b i r) where
     told : (cond (eqb (r .number) 16) 0 (r .number) ≡ awaitsNumber t b i) × (r .awaited ≡ awaitsCount t b i)
     unfolding awaitsNumber awaitsCount awaitedNumber awaitedCount
     told =

@@ -2,13 +2,14 @@
 use Prim.Native.Nat.{ℕ, _≤_, _<_}
 use mathlib.Core.Path.{_≡_}
 use mathlib.Core.List.{List, map, _++_}
-use mathlib.Core.Bool.{Bool, true}
+use mathlib.Core.Bool.{Bool, true, false}
 use lib.ListN.{length, take, drop}
 use Rattle.program.specs.Bodies.{Program, programOf}
 use Rattle.program.specs.Count.{workOf}
 use Rattle.program.specs.Table.{workLimit, numberOf}
+use Rattle.program.specs.declared.command.Command.{Command}
 use Rattle.rules.specs.declared.state.State.{State}
-use Rattle.rules.specs.State.{answerNumber}
+use Rattle.rules.specs.State.{answerNumber, ended}
 use Rattle.rules.specs.WellFormed.{wellFormed}
 use Rattle.rules.specs.Search.{bitsBelow}
 use Rattle.rules.specs.Steps.{base, at, awaited, refusal, canStep}
@@ -16,17 +17,15 @@ use Rattle.rules.specs.Runs.{runFrom, answersFrom, awaitedFrom}
 use Rattle.places.specs.Known.{Known}
 use Rattle.fields.specs.Lent.{Lent}
 use Rattle.moves.specs.Moves.{Turned}
-use Rattle.turns.specs.declared.look.Seen.{Seen}
 use Rattle.turns.specs.declared.Reply.{Reply}
 
--- What activity i meets on the way to a step: the number 14 to 16 or 0, how many it waits for, and, where the number is 0, the command that it stands on.
-pub record Sees (p : Program) (s : State) (i : ℕ) (r : Seen) : Type 0 where
+-- What activity i meets on the way to a step: the number 14 to 16 or 0, and how many it waits for.
+pub record Sees (p : Program) (s : State) (i : ℕ) (r : Reply) : Type 0 where
   pub number : r .number ≡ refusal p s i
   pub count : r .awaited ≡ awaited p s i
-  pub stands : r .number ≡ 0 → at p s i .command ≡ r .command
 
 -- So of activity i, whichever number it is, of a well-formed state.
-pub record Looks (t starts b : List ℕ) (i : ℕ) (r : Seen) : Type 0 where
+pub record Looks (t starts b : List ℕ) (i : ℕ) (r : Reply) : Type 0 where
   pub sees : Known t starts → (s : State) → Lent b s → wellFormed 65535 (programOf t) s ≡ true → Sees (programOf t) s i r
 
 -- It can step.
@@ -36,6 +35,17 @@ pub record CanStep (t starts b : List ℕ) (i : ℕ) (r : Bool) : Type 0 where
 -- The ready set of a well-formed state.
 pub record Readies (t starts b : List ℕ) (r : ℕ) : Type 0 where
   pub tells : Known t starts → (s : State) → Lent b s → wellFormed 65535 (programOf t) s ≡ true → r ≡ bitsBelow 64 (canStep (programOf t) s)
+
+-- A turn of activity i of a well-formed state, which has not ended and stands on the command: 16, 17 or the one next state; and how many it waits for.
+pub record CarriesIn (t starts : List ℕ) (command : Command) (b c : List ℕ) (work i : ℕ) (r : Reply) : Type 0 where
+  pub turns : Known t starts → work ≡ workOf (programOf t) → work ≤ workLimit → (s : State) → Lent b s → wellFormed 65535 (programOf t) s ≡ true → i < s .activities
+      → ended s i ≡ false → at (programOf t) s i .command ≡ command → Turned (programOf t) s i c (r .number)
+  pub waits : Known t starts → (s : State) → Lent b s → wellFormed 65535 (programOf t) s ≡ true → i < s .activities → ended s i ≡ false
+      → at (programOf t) s i .command ≡ command → r .awaited ≡ awaited (programOf t) s i
+
+-- The same of a function that reads no table.
+pub record Carries (command : Command) (b c : List ℕ) (work i : ℕ) (r : Reply) : Type 0 where
+  pub carries : (t starts : List ℕ) → CarriesIn t starts command b c work i r
 
 -- A turn of activity i, whichever number it is, of a well-formed state: numbers 14 to 17, or the one next state; and how many it waits for.
 pub record TurnsAny (t starts b c : List ℕ) (work i : ℕ) (r : Reply) : Type 0 where

@@ -1,15 +1,22 @@
-// Turns in the lent bytes: the command's function for whoever does not wait, and orders of turns; the ready set and the standing sheet.
-ghost use Rattle.moves.specs.Moves.{TurnsIn};
-ghost use Rattle.turns.specs.Turns.{TurnsAny};
+// Turns in the lent bytes: numbers 14 to 16, or the command's function, and orders of turns; the ready set and the standing sheet.
+ghost use mathlib.Core.Path.{_≡_};
+ghost use Rattle.turns.specs.Turns.{CarriesIn, TurnsAny};
 use barriers::clock::clock;
-use barriers::next::next;
 use barriers::rehold::drop;
 use barriers::rehold::resume;
-use bodies::end::end;
 use bodies::finish::finish;
 use bodies::repeat::repeat;
 use bodies::spawn::spawn;
-use look::look;
+use fields::activities::depth_at;
+use fields::activities::status_at;
+use fields::counts::activities_of;
+use fields::frames::frame_at;
+use meet::meet_end;
+use meet::meet_next;
+use meet::meet_read;
+use meet::meet_reset;
+use parts::checks::is_ended;
+use places::command_at;
 use program::command::Command;
 use values::acc::acc;
 use values::atom::atom;
@@ -18,45 +25,12 @@ use values::cells::fetch;
 use values::cells::store;
 use values::offer::offer;
 use values::put::put;
-use values::read::read;
-use values::reset::reset;
 
-pub mod look; // look.rt: numbers 14 to 16, and how many an activity waits for
+mod meet; // meet.rt: the commands that can wait
+pub mod look; // look.rt: who can step, and how many an activity waits for
 pub mod ready; // ready.rt: the ready set
 pub mod sheet; // sheet.rt: the standing sheet
 pub mod follow; // follow.rt: an order of turns
-
-// The command that the activity stands on and does not wait at.
-fn carry_out(
-    table: &[u8],
-    starts: &[usize],
-    work: u64,
-    state: &mut [u8],
-    i: usize,
-    command: Command,
-) -> u8
-    ensures { λ r. ⌜ TurnsIn (now (table .entry)) (now (starts .entry)) command (now (state .entry)) (now (state .exit)) work i r ⌝ }
-{
-    match command {
-        Command::End => end(table, starts, work, state, i),
-        Command::Next => next(work, state, i),
-        Command::Clock(c) => clock(work, state, i, c as usize),
-        Command::Resume(c) => resume(work, state, i, c as usize),
-        Command::Drop(c) => drop(work, state, i, c as usize),
-        Command::Async(b, m) => spawn(table, starts, work, state, i, b, m),
-        Command::Finish(b) => finish(work, state, i, b),
-        Command::Repeat(n, b) => repeat(work, state, i, n, b),
-        Command::Acc(n, o) => acc(work, state, i, n as usize, o),
-        Command::Offer(n) => offer(work, state, i, n as usize),
-        Command::Read(n) => read(work, state, i, n as usize),
-        Command::Reset(n) => reset(work, state, i, n as usize),
-        Command::Put(v) => put(work, state, i, v),
-        Command::Fetch(d) => fetch(work, state, i, d as usize),
-        Command::Store(d) => store(work, state, i, d as usize),
-        Command::Add(d) => add(work, state, i, d as usize),
-        Command::Atom(k) => atom(table, starts, work, state, i, k),
-    }
-}
 
 // What a turn answers, and how many its activity waits for.
 pub struct Reply {
@@ -64,18 +38,62 @@ pub struct Reply {
     pub awaited: u8,
 }
 
+// The answer to one that waits for nobody.
+fn alone(number: u8) -> Reply
+    ensures { λ r. ⌜ (r .number ≡ number) × (r .awaited ≡ 0) ⌝ }
+{
+    Reply { number, awaited: 0 }
+}
+
+// The command that the activity stands on.
+fn carry_out(
+    table: &[u8],
+    starts: &[usize],
+    work: u64,
+    state: &mut [u8],
+    i: usize,
+    command: Command,
+) -> Reply
+    ensures { λ r. ⌜ CarriesIn (now (table .entry)) (now (starts .entry)) command (now (state .entry)) (now (state .exit)) work i r ⌝ }
+{
+    match command {
+        Command::End => meet_end(table, starts, work, state, i),
+        Command::Next => meet_next(work, state, i),
+        Command::Clock(c) => alone(clock(work, state, i, c as usize)),
+        Command::Resume(c) => alone(resume(work, state, i, c as usize)),
+        Command::Drop(c) => alone(drop(work, state, i, c as usize)),
+        Command::Async(b, m) => alone(spawn(table, starts, work, state, i, b, m)),
+        Command::Finish(b) => alone(finish(work, state, i, b)),
+        Command::Repeat(n, b) => alone(repeat(work, state, i, n, b)),
+        Command::Acc(n, o) => alone(acc(work, state, i, n as usize, o)),
+        Command::Offer(n) => alone(offer(work, state, i, n as usize)),
+        Command::Read(n) => meet_read(work, state, i, n as usize),
+        Command::Reset(n) => meet_reset(work, state, i, n as usize),
+        Command::Put(v) => alone(put(work, state, i, v)),
+        Command::Fetch(d) => alone(fetch(work, state, i, d as usize)),
+        Command::Store(d) => alone(store(work, state, i, d as usize)),
+        Command::Add(d) => alone(add(work, state, i, d as usize)),
+        Command::Atom(k) => alone(atom(table, starts, work, state, i, k)),
+    }
+}
+
 // A turn of activity i, whichever number it is: numbers 14 to 17, or its step.
 pub fn turn(table: &[u8], starts: &[usize], work: u64, state: &mut [u8], i: usize) -> Reply
     ensures { λ r. ⌜ TurnsAny (now (table .entry)) (now (starts .entry)) (now (state .entry)) (now (state .exit)) work i r ⌝ }
 {
-    let seen = look(table, starts, state, i);
-    if seen.number != 0 {
-        return Reply {
-            number: seen.number,
-            awaited: seen.awaited,
-        };
+    let made = activities_of(state) as usize;
+    if made <= i {
+        return alone(14);
     }
-    let command = seen.command;
-    let number = carry_out(table, starts, work, state, i, command);
-    Reply { number, awaited: 0 }
+    let status = status_at(state, i);
+    if is_ended(status) {
+        return alone(15);
+    }
+    let depth = depth_at(state, i) as usize;
+    if depth == 0 {
+        return alone(15);
+    }
+    let f = frame_at(state, i, depth - 1);
+    let command = command_at(table, starts, f);
+    carry_out(table, starts, work, state, i, command)
 }

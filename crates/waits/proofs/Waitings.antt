@@ -211,12 +211,16 @@ cond-same : (b : Bool) → _≡_ {A = ℕ} 0 (cond b 0 0)
 cond-same true = refl
 cond-same false = refl
 
-pub awaits-other : {t starts b : List ℕ} {i : ℕ} (c : Command) → OneOf others (tagOf the-type c) → Awaits t starts c b i 0
+-- A command that waits for nobody.
+pub awaits-idle : {t starts b : List ℕ} {i : ℕ} (c : Command) → ((p : Program) (s : State) (a : Activity) (x : ℕ) → waitsFor p s i a c x ≡ false) → Awaits t starts c b i 0
 unfolding awaitedAt
-awaits-other {t} {i = i} c h = record {
+awaits-idle {t} {i = i} c h = record {
   tells =
       λ k s l w m u a.
       let p = programOf t in
-      let q : countBelow (s .activities) (waitsFor p s i (act s i) c) ≡ 0 = count-none (s .activities) (waitsFor p s i (act s i) c) (λ x g. other-waits p s i (act s i) c h x) in
+      let q : countBelow (s .activities) (waitsFor p s i (act s i) c) ≡ 0 = count-none (s .activities) (waitsFor p s i (act s i) c) (λ x g. h p s (act s i) x) in
       rw (awaited-live p s i m u, a, q) (cond-same (eqb (fault p s i) 0));
 }
+
+pub awaits-other : {t starts b : List ℕ} {i : ℕ} (c : Command) → OneOf others (tagOf the-type c) → Awaits t starts c b i 0
+awaits-other {i = i} c h = awaits-idle c (λ p s a x. other-waits p s i a c h x)

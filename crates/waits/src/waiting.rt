@@ -13,7 +13,7 @@ use program::command::Command;
 use program::command::wide;
 
 // END of a FINISH body waits for those inside who have not ended.
-fn end_awaits(table: &[u8], starts: &[usize], state: &[u8], i: usize) -> u8
+pub fn end_awaits(table: &[u8], starts: &[usize], state: &[u8], i: usize) -> u8
     ensures { λ r. ⌜ EndAwaits (now (table .entry)) (now (starts .entry)) (now (state .entry)) i r ⌝ }
 {
     let depth = wide(depth_at(state, i));
@@ -29,7 +29,7 @@ fn end_awaits(table: &[u8], starts: &[usize], state: &[u8], i: usize) -> u8
 }
 
 // Passing waits for those who are behind on an own clock.
-fn next_awaits(state: &[u8], i: usize) -> u8
+pub fn next_awaits(state: &[u8], i: usize) -> u8
     ensures { λ r. ⌜ NextAwaits (now (state .entry)) i r ⌝ }
 {
     let status = status_at(state, i);
@@ -40,7 +40,7 @@ fn next_awaits(state: &[u8], i: usize) -> u8
 }
 
 // READ and RESET, where they meet no fault, wait for the descendants who have not ended.
-fn own_awaits(state: &[u8], i: usize, n: usize) -> u8
+pub fn own_awaits(state: &[u8], i: usize, n: usize) -> u8
     ensures { λ r. ⌜ (n < 8 → OwnAwaits n (now (state .entry)) i r) ⌝ }
 {
     if read_fault(state, i, n) == 0 {

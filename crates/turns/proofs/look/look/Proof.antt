@@ -7,7 +7,7 @@ use Rattle.turns.proofs.look.look.Statement.{statement}
 use Rattle.turns.proofs.look.look.Tie as tie
 
 returns : tie.Need-returns
-returns c = record { sees = λ k s l w. not-spawned l (c .before .before .activities-of .ensures) (c .before .if1 .taken) (c .unable .ensures) }
+returns c = record { sees = λ k s l w. not-spawned l (c .before .before .activities-of .ensures) (c .before .if1 .taken) (c .alone .ensures) }
 
 returns-2 : tie.Need-returns-2
 returns-2 c =
@@ -15,7 +15,7 @@ returns-2 c =
     let g = e .before in
     let f = g .before in
     record {
-      sees = λ k s l w. has-ended k l w (f .before .activities-of .ensures) (f .if1 .left) (g .status-at .ensures) (sym (e .is-ended .ensures) ∙ c .before .if2 .taken) (c .unable2 .ensures);
+      sees = λ k s l w. has-ended k l w (f .before .activities-of .ensures) (f .if1 .left) (g .status-at .ensures) (sym (e .is-ended .ensures) ∙ c .before .if2 .taken) (c .alone2 .ensures);
     }
 
 returns-3 : tie.Need-returns-3
@@ -67,8 +67,8 @@ returns-5 c =
 pub look-spec : {M : Type 1} → statement M
 look-spec =
     tie.close
-    (tie.spec (λ activities-of-requires κs. search needs) (λ cast-made. search needs) (λ unable-requires κs. search needs) returns
-    (λ status-at-requires κs. search needs) (λ is-ended-requires κs. search needs) (λ unable-requires-2 κs. search needs) returns-2
-    (λ depth-at-requires κs. search needs) (λ cast-depth. search needs) (λ unable-requires-3 κs. search needs) returns-3
+    (tie.spec (λ activities-of-requires κs. search needs) (λ cast-made. search needs) (λ alone-requires κs. search needs) returns
+    (λ status-at-requires κs. search needs) (λ is-ended-requires κs. search needs) (λ alone-requires-2 κs. search needs) returns-2
+    (λ depth-at-requires κs. search needs) (λ cast-depth. search needs) (λ alone-requires-3 κs. search needs) returns-3
     (λ sub-frame-at. search needs) (λ frame-at-requires κs. search needs) (λ command-at-requires κs. search needs)
     (λ awaited-at-requires κs. search needs) returns-4 returns-5)
