@@ -1,14 +1,12 @@
 -- How many an activity waits for is 0 exactly where 16 does not apply; and who waits, as a search.
 use Prim.Native.Nat.{ℕ, _<_}
 use native.Mathlib.Omega.{arith}
-use mathlib.Core.List.{List}
 use mathlib.Core.Bool.{Bool, true, false, cond, _&&_, not}
-use mathlib.Core.Path.{_≡_, refl, sym, ap, _∙_}
+use mathlib.Core.Path.{_≡_, refl, sym, _∙_}
 use lib.Dec.{ltb, eqb}
-use borrow.Author.Tests.{ltb-true, ltb-false, lt-ltb, eqb-true, not-true}
+use borrow.Author.Tests.{ltb-true, lt-ltb, eqb-true, not-true}
 use Rattle.program.specs.declared.command.Command.{Command}
-use Rattle.program.specs.Bodies.{Program, programOf}
-use Rattle.program.specs.Table.{numberOf}
+use Rattle.program.specs.Bodies.{Program}
 use Rattle.rules.specs.declared.state.Activity.{Activity}
 use Rattle.rules.specs.declared.state.State.{State}
 use Rattle.rules.specs.Search.{someBelow}
@@ -74,7 +72,3 @@ module _ (p : Program) (s : State) (i : ℕ) where
       go : (b : Bool) → waits p s i ≡ b → waits p s i ≡ eqb (refusal p s i) 16
       go true e = let w = waiting-parts e in rw (lt-ltb i (s .activities) (w .spawned), w .unended, e)
       go false e = rw e (idle (ltb i (s .activities)) (ended s i))
-
-  -- Who can step waits for nobody.
-  pub awaited-none : refusal p s i ≡ 0 → awaited p s i ≡ 0
-  awaited-none e = let h = ltb-false 0 (awaited p s i) (awaited-zero ∙ rw e) in omega arith

@@ -26,16 +26,6 @@ uncounted f n count b e g h = omega (arith, after f n false (sym g ∙ h))
 pub last : (f : ℕ → Bool) (i n count : ℕ) → i ≤ n → n ≤ i → count ≡ countBelow i f → count ≡ countBelow n f
 last f i n count h g e = e ∙ ap (λ (k : ℕ). countBelow k f) (le-antisymm h g)
 
--- No more than there are.
-pub count-bounded : (n : ℕ) (f : ℕ → Bool) → countBelow n f ≤ n
-unfolding countBelow
-count-bounded zero f = omega arith
-count-bounded (suc n) f = go (f n) (count-bounded n f)
-  where
-    go : (b : Bool) → countBelow n f ≤ n → cond b 1 0 + countBelow n f ≤ suc n
-    go true h = omega arith
-    go false h = omega arith
-
 -- SEARCH AND COUNT
 
 -- Some pass exactly where the count is not 0.

@@ -3,7 +3,7 @@ use Prim.Native.Nat.{ℕ, _≤_, _<_}
 use native.Mathlib.Omega.{arith}
 use mathlib.Core.Path.{_≡_, refl, sym, ap, _∙_, subst}
 use mathlib.Core.List.{List}
-use mathlib.Core.Bool.{true, false}
+use mathlib.Core.Bool.{false}
 use borrow.Author.Tests.{lt-ltb, le-ltb, eqb-true}
 use Rattle.program.specs.Bodies.{Program, programOf}
 use Rattle.program.specs.declared.command.Command.{Command}
@@ -15,7 +15,7 @@ use Rattle.rules.specs.declared.answer.Answer.the-variants.{Refused}
 use Rattle.rules.specs.declared.answer.Stepped.{Stepped}
 use Rattle.rules.specs.State.{ended, answerNumber}
 use Rattle.rules.specs.Waiting.{waitsFor}
-use Rattle.rules.specs.Steps.{base, stepped, at, awaited, waits, refusal, advance}
+use Rattle.rules.specs.Steps.{base, stepped, awaited, waits, refusal, advance}
 use Rattle.rules.proofs.Awaited.{awaited-zero}
 use Rattle.rules.proofs.Turn.{turn-back}
 use Rattle.fields.specs.Lent.{Lent}

@@ -25,7 +25,7 @@ use Rattle.rules.specs.WellFormed.{isPlaced, wellFormed}
 use Rattle.rules.specs.Faults.{readFault, faultFor}
 use Rattle.rules.specs.Effects.{envOf}
 use Rattle.rules.specs.Waiting.{behindOf, unendedBelow, unendedInside, waitsFor, awaitedAt}
-use Rattle.rules.specs.Steps.{at, fault, awaited}
+use Rattle.rules.specs.Steps.{at, fault}
 use Rattle.rules.proofs.Counting.{count-none, guard-shut, guard-open}
 use Rattle.rules.proofs.Awaited.{awaited-live}
 use Rattle.rules.proofs.WellFormedFacts.{Facts, facts}

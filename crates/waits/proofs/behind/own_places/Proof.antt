@@ -1,6 +1,5 @@
 -- Each turn enters one name.
 use Prim.Native.Nat.{_-_}
-use native.Mathlib.Omega.{arith}
 use mathlib.Core.Path.{refl, sym, _∙_}
 use Rattle.waits.proofs.Behinds.{OwnTo, own-none, own-all, own-free, own-high, own-store}
 use borrow.Author.Needs.{needs}
