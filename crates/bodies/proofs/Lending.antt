@@ -1,10 +1,9 @@
 -- The faults of ASYNC.
 use Prim.Native.Nat.{ℕ, _+_, _-_, _≤_, _<_}
 use native.Mathlib.Omega.{arith}
-use native.Mathlib.Numerals.{add-one}
 use mathlib.Core.Path.{_≡_, refl, sym, ap, _∙_}
 use mathlib.Core.List.{List}
-use mathlib.Core.Bool.{Bool, true, false, cond, _&&_, _||_, not}
+use mathlib.Core.Bool.{Bool, true, false, cond, _&&_, not}
 use borrow.Author.Tests.{lt-ltb}
 use Rattle.program.specs.Bodies.{Program, programOf}
 use Rattle.rules.specs.declared.state.Registration.{Registration}
@@ -20,7 +19,7 @@ use Rattle.rules.specs.Tree.{here, isFinish, finishes, inOwnFinish}
 use Rattle.rules.specs.WellFormed.{isPlaced}
 use Rattle.rules.specs.Faults.{bit, lendsUnheld, lendsQuiesced, asyncFault}
 use Rattle.rules.proofs.Search.{someBelow-intro}
-use Rattle.places.proofs.Searches.{found, passed, none}
+use Rattle.places.proofs.Searches.{some-more, found, passed, none}
 use Rattle.places.specs.Known.{Known}
 use Rattle.places.specs.Stack.{Stacked}
 use Rattle.fields.specs.Lent.{Lent, ReadsAct}
@@ -41,10 +40,6 @@ pub record LendsTo (m k : ℕ) (b : List ℕ) (i found : ℕ) : Type 0 where
   pub within : k ≤ 8
   pub held : (s : State) → Lent b s → i < 64 → someBelow k (unheld m (act s i)) ≡ false
   pub noted : (s : State) → Lent b s → i < 64 → found ≡ cond (someBelow k (quiet m (act s i))) 2 0
-
-some-more : (k : ℕ) (f : ℕ → Bool) → someBelow (k + 1) f ≡ f k || someBelow k f
-unfolding someBelow
-some-more k f = rw (add-one k)
 
 pub lend-none : {m : ℕ} {b : List ℕ} {i : ℕ} → LendsTo m 0 b i 0
 unfolding someBelow

@@ -3,10 +3,15 @@ use Prim.Native.Nat.{ℕ, zero, suc, _+_, _≤_, _<_}
 use native.Mathlib.Omega.{arith}
 use native.Mathlib.Numerals.{add-one}
 use mathlib.Core.Path.{_≡_, refl, sym, _∙_}
-use mathlib.Core.Bool.{Bool, true, false, _&&_}
+use mathlib.Core.Bool.{Bool, true, false, _||_, _&&_}
 use Rattle.rules.specs.Search.{someBelow}
 use Rattle.rules.proofs.Tests.{and-true, and-intro}
 use Rattle.rules.proofs.Search.{someBelow-witness, someBelow-intro}
+
+-- One index more.
+pub some-more : (k : ℕ) (f : ℕ → Bool) → someBelow (k + 1) f ≡ f k || someBelow k f
+unfolding someBelow
+some-more k f = rw (add-one k)
 
 -- A search by a loop over f: it stops at k, goes on past k, or comes to the end.
 module _ (f : ℕ → Bool) (k : ℕ) where
@@ -14,8 +19,7 @@ module _ (f : ℕ → Bool) (k : ℕ) where
   found n h e t = sym (someBelow-intro n f k h (sym e ∙ t))
 
   pub passed : {r : Bool} → someBelow k f ≡ false → r ≡ f k → r ≡ false → someBelow (k + 1) f ≡ false
-  unfolding someBelow
-  passed a e t = rw (add-one k, sym e ∙ t, a)
+  passed a e t = some-more k f ∙ rw (sym e ∙ t, a)
 
   pub none : (n : ℕ) → k ≤ n → n ≤ k → someBelow k f ≡ false → false ≡ someBelow n f
   none n h l e = let q : k ≡ n = omega arith in sym (rw q at e)

@@ -2,10 +2,9 @@
 use Prim.Native.Nat.{ℕ, _+_, _-_, _*_, _^_, _≤_, _<_}
 use native.Mathlib.Omega.{arith}
 use native.Mathlib.Decide.{decLt, ℕ-discrete}
-use native.Mathlib.Numerals.{add-one}
 use mathlib.Core.Path.{_≡_, refl, sym, ap, _∙_}
 use mathlib.Core.List.{List}
-use mathlib.Core.Bool.{Bool, true, false, _||_, _&&_}
+use mathlib.Core.Bool.{Bool, true, false, _||_, _&&_, and-false, or-false}
 use lib.ListN.{length, getD, take, drop, set, replicate, length-set, getD-replicate, List·getD-eq-default}
 use lib.Seq.{getD-set-same, getD-set-other}
 use lib.Dec.{ltb, eqb}
@@ -22,7 +21,7 @@ use Rattle.rules.specs.Waiting.{behindOf}
 use Rattle.rules.proofs.Tests.{and-true, true-false}
 use Rattle.rules.proofs.Search.{someBelow-all}
 use Rattle.rules.proofs.Counting.{counted, uncounted, last}
-use Rattle.places.proofs.Searches.{found, passed, none, some-alike, someBelow-swap}
+use Rattle.places.proofs.Searches.{some-more, found, passed, none, some-alike, someBelow-swap}
 use Rattle.encoding.specs.Bytes.{bytesOf, part}
 use Rattle.encoding.specs.Encode.{encodeHold}
 use Rattle.fields.specs.Lent.{Lent, Reads, ReadsAct}
@@ -67,19 +66,6 @@ place-behind c p h = go (h .registration)
 some-shared : (n : ℕ) (b : Bool) (f : ℕ → Bool) → someBelow n (λ k. b && f k) ≡ b && someBelow n f
 some-shared n true f = refl
 some-shared n false f = someBelow-all n (λ k. false) (λ k l e. true-false false e refl)
-
--- One index more: it does not pass, or none before it does.
-some-skipped : (f : ℕ → Bool) (n : ℕ) → f n ≡ false → someBelow (n + 1) f ≡ someBelow n f
-unfolding someBelow
-some-skipped f n e = rw (add-one n, e)
-
-some-first : (f : ℕ → Bool) (n : ℕ) → someBelow n f ≡ false → someBelow (n + 1) f ≡ f n
-unfolding someBelow
-some-first f n e = rw (add-one n, e) (go (f n))
-  where
-    go : (b : Bool) → b || false ≡ b
-    go true = refl
-    go false = refl
 
 swap-and : (a b c : Bool) → a && (b && c) ≡ b && (a && c)
 swap-and true true c = refl
@@ -141,7 +127,7 @@ module _ {b : List ℕ} {i : ℕ} where
           λ s l j k c place.
           let f = keepsBy (act s i) c place in
           let z : f n ≡ false = rw (← r low .reads s l j, e) in
-          x .tells s l j k c place ∙ sym (some-skipped f n z);
+          x .tells s l j k c place ∙ sym (some-more n f ∙ rw z);
     }
 
     module _ (held : isHeld (h .registration) ≡ true) where
@@ -181,17 +167,15 @@ module _ {b : List ℕ} {i : ℕ} where
               k .distinct y n w low (d .0) (rw q at held) (sym (eqb-true c (hold a y .clock) (d′ .0)) ∙ u ∙ ap (λ (o : Hold). o .clock) q))
               in
               let here : f n ≡ ltb place v = rw (← q, held, t, e) in
-              rw u (getD-set-at own v m g place) ∙ sym (some-first f n before ∙ here)
-            where
-              getD-set-at : (own : List ℕ) (v : ℕ) → length own ≡ 16 → h .clock < 16 → (place : ℕ) → ltb place (getD (set own (h .clock) v) (h .clock) 0) ≡ ltb place v
-              getD-set-at own v m g place = ap (λ (z : ℕ). ltb place z) (getD-set-same own (h .clock) v 0 (omega arith))
+              let long : h .clock < length own = omega arith in
+              rw u (ap (λ (z : ℕ). ltb place z) (getD-set-same own (h .clock) v 0 long)) ∙ sym (some-more n f ∙ rw before (or-false (f n)) ∙ here)
           go s l j k c place false t =
               let a = act s i in
               let f = keepsBy a c place in
               let z : f n ≡ false = rw (← r low .reads s l j, held, t) in
               ap (λ (y : ℕ). ltb place y) (getD-set-other own (h .clock) c v 0 (λ y. eqb-false c (h .clock) t y))
               ∙ x .tells s l j k c place
-              ∙ sym (some-skipped f n z)
+              ∙ sym (some-more n f ∙ rw z)
 
 -- A CLOCK NAME IN 8 BYTES
 
@@ -221,10 +205,6 @@ module _ {b : List ℕ} (h : Hold) (q : b ≡ encodeHold h) where
       let m = ap (λ (l : List ℕ). getD l 1 0) q in
       omega arith
 
-and-never : (b : Bool) → b && false ≡ false
-and-never true = refl
-and-never false = refl
-
 module _ {own b : List ℕ} {r : ℕ} (registration : r ≡ getD b 5 0) where
   pub late-free : r ≡ 0 → Late own b false
   unfolding isLate
@@ -239,7 +219,7 @@ module _ {own b : List ℕ} {r : ℕ} (registration : r ≡ getD b 5 0) where
           λ h q w.
           let e = clock ∙ clock-in h q in
           let z : getD own (h .clock) 0 ≡ 0 = List·getD-eq-default own 0 {n = h .clock} (omega arith) in
-          rw (z, le-ltb (placeOf h) 0 (omega arith)) (sym (and-never (isHeld (h .registration))));
+          rw (z, le-ltb (placeOf h) 0 (omega arith)) (sym (and-false (isHeld (h .registration))));
     }
 
     pub late-by : {x y : ℕ} → (r ≡ 0 → ⊥) → x ≡ getD b 0 0 → y ≡ getD b 1 0 → Late own b (ltb (2 * (x + 256 * y) + r) (getD own c 0))

@@ -4,7 +4,7 @@ use native.Mathlib.Omega.{arith}
 use mathlib.Core.Path.{_≡_, refl, sym, ap, _∙_}
 use mathlib.Core.List.{List}
 use mathlib.Core.Logic.{_⊎_, inl, inr}
-use mathlib.Core.Bool.{Bool, true, false, _||_, _&&_, not}
+use mathlib.Core.Bool.{Bool, true, false, _||_, _&&_, not, and-true as and-right}
 use lib.ListN.{getD, set, replicate}
 use lib.Dec.{ltb, leb, eqb}
 use borrow.Author.Tests.{ltb-true, ltb-false, leb-true, le-leb}
@@ -39,10 +39,6 @@ unended-there {x = x} {r = r} g e = record {
       let q : r ≡ statusByte (act s x .status) = own-number l j 4 1 g (omega arith) (omega arith) ∙ status-byte (act s x) in
       ap (λ (n : ℕ). ltb n 2) q ∙ status-below (act s x .status);
 }
-
-and-right : (b : Bool) → b && true ≡ b
-and-right true = refl
-and-right false = refl
 
 -- NOBODY WHO IS TOO LOW
 
