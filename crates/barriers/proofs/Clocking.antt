@@ -43,11 +43,11 @@ module _ {b : List ℕ} {p : Program} {s : State} {i work k : ℕ} {h : Hold} {q
     (e : q ≡ isHeld (h .registration)) where
   pub held-fault : q ≡ true → fault p s i ≡ 4
   unfolding faultFor
-  held-fault n = fault-here w ∙ rw (sym (holds-here l (few w) under e) ∙ n)
+  held-fault n = fault-here w refl ∙ rw (sym (holds-here l (few w) under e) ∙ n)
 
   clear : q ≡ false → fault p s i ≡ 0
   unfolding faultFor
-  clear n = fault-here w ∙ rw (sym (holds-here l (few w) under e) ∙ n)
+  clear n = fault-here w refl ∙ rw (sym (holds-here l (few w) under e) ∙ n)
 
   -- number 17 for a 17th
   pub full : {m : ℕ} → q ≡ false → false ≡ leb work (s .steps) → Reads (λ (t : State). t .clocks) b m → 16 ≤ m → true ≡ exceeds base p s (effect p s i)

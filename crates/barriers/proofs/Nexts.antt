@@ -71,7 +71,7 @@ module _ {b : List ℕ} {p : Program} {s : State} {i work : ℕ} (l : Lent b s) 
   -- number 17 where a step is left
   exceeding : {r : Bool} → r ≡ overtakes (act s i) → r ≡ exceeds base p s (effect p s i)
   unfolding exceedsAt overfull faultFor
-  exceeding e = asks w (sym (fault-here w)) (rw (sym left) e)
+  exceeding e = asks w (sym (fault-here w refl)) (rw (sym left) e)
 
   pub last-phase : isAtBarrier (act s i .status) ≡ true → true ≡ someLast (act s i .holds) → true ≡ exceeds base p s (effect p s i)
   unfolding overtakes
@@ -89,7 +89,7 @@ module _ {b : List ℕ} {p : Program} {s : State} {i work : ℕ} (l : Lent b s) 
   unfolding faultFor effectOf nextOf overtakes withAct
   arrived {b₃ = b₃} e m t k =
       let x = withHolds (act s i) AtBarrier (map quiesce (act s i .holds)) in
-      done-alone w (fault-here w) (exceeding (rw e)) x (rw e) (k .counts _ (renewed (l .fine .each i (few w) .holds8) m t) (steps-room w left)) (k .number)
+      done-alone w (fault-here w refl) (exceeding (rw e)) x (rw e) (k .counts _ (renewed (l .fine .each i (few w) .holds8) m t) (steps-room w left)) (k .number)
 
   pub gone : {b₁ b₂ b₃ : List ℕ} {r : ℕ} → isAtBarrier (act s i .status) ≡ true → false ≡ someLast (act s i .holds) → Maps Passable pass b b₁ i
       → WritesAct (λ (a : Activity). withStatus a Running) b₁ b₂ i → GoesOn b₂ b₃ i 1 r → Turned p s i b₃ r
@@ -98,4 +98,4 @@ module _ {b : List ℕ} {p : Program} {s : State} {i work : ℕ} (l : Lent b s) 
       let x = withHolds (act s i) Running (map pass (act s i .holds)) in
       let z : act (withAct s i x) i ≡ x = act-with x l (few w) in
       let y = went w refl (span-is Next) left (renewed (sym n) m t) (ap (λ (a : Activity). a .frames) z) (ap (λ (a : Activity). a .depth) z) (steps-with s i x) g in
-      done-alone w (fault-here w) (exceeding (rw (e, ← n))) (past p x) (rw e) (rw (z, with-with) at y) (g .number)
+      done-alone w (fault-here w refl) (exceeding (rw (e, ← n))) (past p x) (rw e) (rw (z, with-with) at y) (g .number)

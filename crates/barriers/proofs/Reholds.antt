@@ -41,23 +41,23 @@ rehold {s = s} {i = i} {k = k} {h = h} l w m n left f g =
 module _ {b : List ℕ} {p : Program} {s : State} {i work k : ℕ} {h : Hold} {q : Bool} (l : Lent b s) where
   pub resume-fault : (w : Standing p s i work (Resume k)) → ReadsAct (λ (a : Activity). hold a k) b i h → q ≡ isHeld (h .registration) → q ≡ false → fault p s i ≡ 1
   unfolding faultFor
-  resume-fault w under e n = fault-here w ∙ rw (sym (holds-here l (few w) under e) ∙ n)
+  resume-fault w under e n = fault-here w refl ∙ rw (sym (holds-here l (few w) under e) ∙ n)
 
   pub drop-fault : (w : Standing p s i work (Drop k)) → ReadsAct (λ (a : Activity). hold a k) b i h → q ≡ isHeld (h .registration) → q ≡ false → fault p s i ≡ 1
   unfolding faultFor
-  drop-fault w under e n = fault-here w ∙ rw (sym (holds-here l (few w) under e) ∙ n)
+  drop-fault w under e n = fault-here w refl ∙ rw (sym (holds-here l (few w) under e) ∙ n)
 
   pub resumed : {b₁ b₂ : List ℕ} {x : Hold} {r : ℕ} (w : Standing p s i work (Resume k)) → ReadsAct (λ (a : Activity). hold a k) b i h → q ≡ isHeld (h .registration) → q ≡ true → false ≡ leb work (s .steps)
       → x ≡ quiesce h → WritesAct (λ (a : Activity). withHold a k x) b b₁ i → GoesOn b₁ b₂ i 2 r → Turned p s i b₂ r
   unfolding faultFor effectOf overfull past isEnd
   resumed w under e n left z f g =
       let y = under .reads s l (few w) in
-      let clear : fault p s i ≡ 0 = fault-here w ∙ rw (sym (holds-here l (few w) under e) ∙ n) in
+      let clear : fault p s i ≡ 0 = fault-here w refl ∙ rw (sym (holds-here l (few w) under e) ∙ n) in
       done-alone w clear (plain w left refl (λ o. omega arith)) _ refl (rw (z, y) at (rehold l w refl (span-is (Resume k)) left f g)) (g .number ∙ sym (calm w))
 
   pub dropped : {b₁ b₂ : List ℕ} {x : Hold} {r : ℕ} (w : Standing p s i work (Drop k)) → ReadsAct (λ (a : Activity). hold a k) b i h → q ≡ isHeld (h .registration) → q ≡ true → false ≡ leb work (s .steps)
       → x ≡ noHold → WritesAct (λ (a : Activity). withHold a k x) b b₁ i → GoesOn b₁ b₂ i 2 r → Turned p s i b₂ r
   unfolding faultFor effectOf overfull past isEnd
   dropped w under e n left z f g =
-      let clear : fault p s i ≡ 0 = fault-here w ∙ rw (sym (holds-here l (few w) under e) ∙ n) in
+      let clear : fault p s i ≡ 0 = fault-here w refl ∙ rw (sym (holds-here l (few w) under e) ∙ n) in
       done-alone w clear (plain w left refl (λ o. omega arith)) _ refl (rw z at (rehold l w refl (span-is (Drop k)) left f g)) (g .number ∙ sym (calm w))

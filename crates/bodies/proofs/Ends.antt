@@ -9,7 +9,7 @@ use lib.Seq.{getD-set-other}
 use lib.Dec.{leb}
 use borrow.Author.Tests.{le-leb, lt-leb, lt-ltb, le-ltb}
 use Rattle.program.specs.Command.{isEnd, width, held}
-use Rattle.program.specs.Bodies.{programOf}
+use Rattle.program.specs.Bodies.{Program, programOf}
 use Rattle.program.specs.declared.command.Command.{Command}
 use Rattle.program.specs.declared.command.Command.the-variants.{End, Finish, Repeat}
 use Rattle.program.proofs.ShapeRows.{span-is}
@@ -20,7 +20,8 @@ use Rattle.rules.specs.declared.state.State.{State}
 use Rattle.rules.specs.State.{noFrame, act, frame, top}
 use Rattle.rules.specs.Tree.{here, nextOffset, isFinish}
 use Rattle.rules.specs.WellFormed.{isPlaced}
-use Rattle.rules.specs.Faults.{faultFor}
+use Rattle.rules.specs.Faults.{faultFor, spoilt}
+use Rattle.rules.specs.Steps.{fault}
 use Rattle.rules.specs.Effects.{alone, stopped, withTop, past, again, popped, endOf, effectOf}
 use Rattle.rules.proofs.WellFormedStack.{Ran, byFinish, byRepeat, ran-going, Stack}
 use Rattle.rules.proofs.WellFormedFacts.{facts}
@@ -31,7 +32,7 @@ use Rattle.fields.specs.Lent.{Lent, ReadsAct, WritesAct, withAct, withSteps, wi
 use Rattle.moves.specs.Moves.{Standing, Turned, Counts, GoesOn}
 use Rattle.bodies.specs.Pops.{lower, Pops}
 use Rattle.moves.proofs.Withs.{act-with, with-with, steps-with, then}
-use Rattle.moves.proofs.Standings.{spawned, few, fault-here, plain, calm, steps-room, shallow, done-alone}
+use Rattle.moves.proofs.Standings.{spawned, few, fault-at, plain, calm, steps-room, shallow, done-alone}
 
 pub pop-done : {b b₁ b₂ b₃ : List ℕ} {i d size r : ℕ} {f : Frame} → f ≡ noFrame → (d - 1 < 16 → WritesAct (λ (a : Activity). withFrame a (d - 1) f) b b₁ i)
     → WritesAct (λ (a : Activity). withDepth a (d - 1)) b₁ b₂ i → GoesOn b₂ b₃ i size r → Pops b b₃ i d size r
@@ -52,27 +53,36 @@ size-of : {made : ℕ} {o : Command} {f : Frame} → Ran made o f → width o + 
 size-of (byFinish b e p q r) = rw e (span-is (Finish b))
 size-of (byRepeat n b e p q r u) = rw e (span-is (Repeat n b))
 
+-- A fault is passed on.
+pub passed-on : {p : Program} {s : State} {i work : ℕ} → Standing p s i work End → spoilt p s i (act s i) End ≡ true → fault p s i ≡ 8
+passed-on w e = fault-at w ∙ rw e
+
 module _ {t starts b : List ℕ} {s : State} {i work d : ℕ} (k : Known t starts) (l : Lent b s) (w : Standing (programOf t) s i work End) (left : false ≡ leb work (s .steps))
-    (deep : ReadsAct (λ (a : Activity). a .depth) b i d) where
+    (deep : ReadsAct (λ (a : Activity). a .depth) b i d) (none : spoilt (programOf t) s i (act s i) End ≡ false) where
   depth : d ≡ act s i .depth
   depth = deep .reads s l (few w)
 
   stack : Stack (programOf t) (s .activities) (act s i .depth) (act s i .frames)
   stack = facts 65535 (programOf t) s (w .formed) .spawned i (spawned w) .stack
 
+  -- no fault is met
+  clear : fault (programOf t) s i ≡ 0
+  unfolding faultFor
+  clear = fault-at w ∙ rw none
+
   -- the activity after it
   after : {b₁ : List ℕ} {r : ℕ} (x : Activity) → endOf (programOf t) (act s i) ≡ x → Lent b₁ (withSteps (withAct s i x) (s .steps + 1)) → r ≡ 0 → x .status ≡ act s i .status
       → Turned (programOf t) s i b₁ r
-  unfolding faultFor effectOf overfull
-  after x e m n q = done-alone w (fault-here w) (plain w left refl (λ o. omega arith)) x (ap alone e) m (n ∙ sym (rw q (calm w)))
+  unfolding effectOf overfull
+  after x e m n q = done-alone w clear (plain w left refl (λ o. omega arith)) x (ap alone e) m (n ∙ sym (rw q (calm w)))
 
   pub ended : {b₁ b₂ : List ℕ} {r : ℕ} → d ≤ 1 → WritesAct (λ (a : Activity). stopped a Ended) b b₁ i → Counts b₁ b₂ r → Turned (programOf t) s i b₂ r
-  unfolding faultFor effectOf overfull endOf withAct
+  unfolding effectOf overfull endOf withAct
   ended h f g =
       let x = stopped (act s i) Ended in
       let e = depth in
       let q : endOf (programOf t) (act s i) ≡ x = rw (le-leb (act s i .depth) 1 (omega arith)) in
-      done-alone w (fault-here w) (plain w left refl (λ o. omega arith)) x (ap alone q) (g .counts _ (f .writes s l (few w)) (steps-room w left)) (g .number)
+      done-alone w clear (plain w left refl (λ o. omega arith)) x (ap alone q) (g .counts _ (f .writes s l (few w)) (steps-room w left)) (g .number)
 
   module _ (h : 1 < d) {f : Frame} (read : d - 1 < 16 → ReadsAct (λ (a : Activity). frame a (d - 1)) b i f) where
     low : d - 1 < 16

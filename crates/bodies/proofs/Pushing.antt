@@ -44,17 +44,17 @@ module _ {b b₁ : List ℕ} {p : Program} {s : State} {i work : ℕ} (l : Lent 
   finish-done {body = body} w f g =
       let x = pushed (act s i) body 0 (s .activities) in
       let m = rw (f .reads s l) at (g .pushes s l (few w) (steps-room w left) (w .deep (names-is (Finish body)))) in
-      done-alone w (fault-here w) (plain w left refl (λ q. omega arith)) x refl m (g .number ∙ sym (calm w))
+      done-alone w (fault-here w refl) (plain w left refl (λ q. omega arith)) x refl m (g .number ∙ sym (calm w))
 
   pub repeat-none : {n body r : ℕ} → Standing p s i work (Repeat n body) → n ≡ 0 → GoesOn b b₁ i 3 r → Turned p s i b₁ r
   unfolding faultFor effectOf overfull repeatOf past isEnd
-  repeat-none {n} {body} w e g = done-alone w (fault-here w) (plain w left refl (λ q. omega arith)) (past p (act s i)) (rw e) (went w refl (span-is (Repeat n body)) left l refl refl refl g) (g .number ∙ sym (calm w))
+  repeat-none {n} {body} w e g = done-alone w (fault-here w refl) (plain w left refl (λ q. omega arith)) (past p (act s i)) (rw e) (went w refl (span-is (Repeat n body)) left l refl refl refl g) (g .number ∙ sym (calm w))
 
   pub repeat-some : {n body r : ℕ} → Standing p s i work (Repeat n body) → (n ≡ 0 → ⊥) → Pushes body n 0 b b₁ i r → Turned p s i b₁ r
   unfolding faultFor effectOf overfull pushed repeatOf
   repeat-some {n} {body} w e g =
       let x = pushed (act s i) body n 0 in
-      done-alone w (fault-here w) (plain w left refl (λ q. omega arith)) x (ap alone (runs n e)) (g .pushes s l (few w) (steps-room w left) (w .deep (names-is (Repeat n body)))) (g .number ∙ sym (calm w))
+      done-alone w (fault-here w refl) (plain w left refl (λ q. omega arith)) x (ap alone (runs n e)) (g .pushes s l (few w) (steps-room w left) (w .deep (names-is (Repeat n body)))) (g .number ∙ sym (calm w))
     where
       runs : (n : ℕ) → (n ≡ 0 → ⊥) → repeatOf p (act s i) n body ≡ pushed (act s i) body n 0
       runs zero h = absurd (h refl)

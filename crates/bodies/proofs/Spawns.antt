@@ -44,13 +44,13 @@ module _ {t starts b₀ : List ℕ} {s : State} {i work b m f : ℕ} (k : Known 
     (read : ReadsIn (λ (p : Program) (a : Activity). asyncFault p a m) t starts b₀ i f) where
   pub met : fault (programOf t) s i ≡ f
   unfolding faultFor
-  met = fault-here w ∙ sym (read .reads k s l (few w) (stack-of (record { known = k; formed = w .formed }) (spawned w) (turn (programOf t) s i (w .goes) .unended)))
+  met = fault-here w refl ∙ sym (read .reads k s l (few w) (stack-of (record { known = k; formed = w .formed }) (spawned w) (turn (programOf t) s i (w .goes) .unended)))
 
   pub met-number : {x : Fault} → (f ≡ 0 → ⊥) → x ≡ faultOf f → fault (programOf t) s i ≡ faultNumber x
   unfolding faultFor asyncFault
   met-number n e =
       let a = act s i in
-      let q = fault-here w in
+      let q = fault-here w refl in
       let z : f ≡ asyncFault (programOf t) a m = sym met ∙ q in
       met ∙ z ∙ sym (number-of (ltb 0 m && inOwnFinish (programOf t) a) (lendsUnheld a m) (lendsQuiesced a m) (λ o. n (z ∙ o))) ∙ sym (ap faultNumber (e ∙ ap faultOf z))
 

@@ -1,13 +1,19 @@
--- A body that is left.
+-- A body that is left, and END.
 use Prim.Native.Nat.{ℕ, _+_, _-_, _^_, _≤_, _<_}
 use mathlib.Core.Path.{_≡_}
 use mathlib.Core.List.{List}
 use lib.ListN.{set}
+use mathlib.Core.Bool.{Bool}
+use Rattle.program.specs.Bodies.{programOf}
+use Rattle.program.specs.declared.command.Command.the-variants.{End}
 use Rattle.rules.specs.declared.state.Activity.{Activity}
 use Rattle.rules.specs.declared.state.State.{State}
 use Rattle.rules.specs.State.{noFrame, act, top}
+use Rattle.rules.specs.Faults.{spoilt}
 use Rattle.rules.specs.Effects.{withFrames, withTop}
+use Rattle.places.specs.Known.{Known}
 use Rattle.fields.specs.Lent.{Lent, withAct, withSteps, onward}
+use Rattle.moves.specs.Moves.{Standing, Turned}
 
 -- an activity without its top body
 abbrev pub lower : Activity → Activity
@@ -18,3 +24,7 @@ pub record Pops (b c : List ℕ) (i depth size r : ℕ) : Type 0 where
   pub number : r ≡ 0
   pub pops : (s : State) → Lent b s → i < 64 → s .steps < 65535 → depth ≡ act s i .depth → 1 < depth → depth ≤ 16 → top (lower (act s i)) .offset + size < 2 ^ 16
       → Lent c (withSteps (withAct s i (withTop (lower (act s i)) (onward (top (lower (act s i))) (top (lower (act s i)) .offset + size)))) (s .steps + 1))
+
+-- END, told whether one inside the FINISH body that ends has faulted.
+pub record Ends (t starts : List ℕ) (faulted : Bool) (b c : List ℕ) (work i r : ℕ) : Type 0 where
+  pub turns : Known t starts → (s : State) → Lent b s → Standing (programOf t) s i work End → faulted ≡ spoilt (programOf t) s i (act s i) End → Turned (programOf t) s i c r

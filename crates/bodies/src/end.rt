@@ -1,17 +1,17 @@
 // END.
-ghost use Rattle.program.specs.declared.command.Command.the-variants.{End};
-ghost use Rattle.moves.specs.Moves.{TurnsIn};
-ghost use Rattle.bodies.specs.Pops.{Pops};
+ghost use Rattle.bodies.specs.Pops.{Pops, Ends};
 use fields::activities::depth_at;
 use fields::activities::put_depth;
 use fields::frames::frame_at;
 use fields::frames::put_frame;
 use moves::counted;
+use moves::fail;
 use moves::go_on;
 use moves::is_spent;
 use moves::stop;
 use parts::empty::no_frame;
 use places::is_finish;
+use rules::state::Fault;
 use rules::state::Frame;
 use rules::state::Status;
 
@@ -28,10 +28,21 @@ fn pop(state: &mut [u8], i: usize, depth: u8, size: u16) -> u8
     go_on(state, i, size)
 }
 
-// END: of the lowest body it ends the activity; a body with runs left runs again; any other is left, and FINISH is 2 bytes, REPEAT 3.
-pub fn end(table: &[u8], starts: &[usize], work: u64, state: &mut [u8], i: usize) -> u8
-    ensures { λ r. ⌜ TurnsIn (now (table .entry)) (now (starts .entry)) End (now (state .entry)) (now (state .exit)) work i r ⌝ }
+// END: of the lowest body it ends the activity; a body with runs left runs again; any other is left, and FINISH is 2 bytes, REPEAT 3. Where one inside the FINISH body
+// that ends has faulted, the fault is passed on.
+pub fn end(
+    table: &[u8],
+    starts: &[usize],
+    work: u64,
+    state: &mut [u8],
+    i: usize,
+    faulted: bool,
+) -> u8
+    ensures { λ r. ⌜ Ends (now (table .entry)) (now (starts .entry)) faulted (now (state .entry)) (now (state .exit)) work i r ⌝ }
 {
+    if faulted {
+        return fail(work, state, i, Fault::F8);
+    }
     if is_spent(state, work) {
         return 17;
     }

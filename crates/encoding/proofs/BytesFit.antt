@@ -11,13 +11,13 @@ use borrow.Author.Tests.{ltb-true, ltb-false}
 use Rattle.rules.specs.declared.state.Status.{Status}
 use Rattle.rules.specs.declared.state.Status.the-variants.{Running, AtBarrier, Ended, Faulted}
 use Rattle.rules.specs.declared.state.Fault.{Fault}
-use Rattle.rules.specs.declared.state.Fault.the-variants.{F1, F2, F3, F4, F5, F6, F7}
 use Rattle.rules.specs.declared.state.Frame.{Frame}
 use Rattle.rules.specs.declared.state.Hold.{Hold}
 use Rattle.rules.specs.declared.state.Activity.{Activity}
 use Rattle.rules.specs.declared.state.Accumulator.{Accumulator}
 use Rattle.rules.specs.declared.state.State.{State}
 use Rattle.rules.specs.State.{noFrame, noHold, noAccumulator, absent, faultNumber}
+use Rattle.rules.proofs.FaultNumbers.{fault-range}
 use Rattle.rules.proofs.Tests.{decide}
 use Rattle.rules.proofs.Sized.{SizedActivity, Sized}
 use Rattle.encoding.specs.Bytes.{bytesOf, encodeEach}
@@ -76,13 +76,7 @@ below-bytes l n e h = record { each = λ i. go i (decide (ltb i n)) }
 
 -- a fault
 fault-byte : (f : Fault) → faultNumber f < 256
-fault-byte F1 = omega arith
-fault-byte F2 = omega arith
-fault-byte F3 = omega arith
-fault-byte F4 = omega arith
-fault-byte F5 = omega arith
-fault-byte F6 = omega arith
-fault-byte F7 = omega arith
+fault-byte f = let h = fault-range f .1 in omega arith
 
 -- a standing
 standing-bytes : (s : Status) → (statusByte s < 256) × (faultByte s < 256)

@@ -5,9 +5,8 @@ use mathlib.Core.Bool.{true, false, _&&_}
 use mathlib.Core.Path.{_≡_, refl}
 use mathlib.Core.Logic.{_⊎_, inl, inr}
 use lib.Dec.{leb, eqb}
-use borrow.Author.Tests.{leb-true, eqb-true}
+use borrow.Author.Tests.{leb-true, le-leb, eqb-true}
 use Rattle.rules.specs.declared.state.Fault.{Fault}
-use Rattle.rules.specs.declared.state.Fault.the-variants.{F1, F2, F3, F4, F5, F6, F7}
 use Rattle.rules.specs.declared.state.Status.{Status}
 use Rattle.rules.specs.declared.state.Status.the-variants.{Running, AtBarrier, Ended, Faulted}
 use Rattle.rules.specs.declared.state.Registration.{Registration}
@@ -16,6 +15,7 @@ use Rattle.rules.specs.declared.state.Operator.{Operator}
 use Rattle.rules.specs.declared.state.Operator.the-variants.{Sum, Minimum, Maximum}
 use Rattle.rules.specs.State.{faultNumber, faultOf, registrationNumber, operatorNumber, operatorOf}
 use Rattle.rules.proofs.Tests.{and-true, decide}
+use Rattle.rules.proofs.FaultNumbers.{fault-there, fault-range}
 use Rattle.encoding.specs.Encode.{statusByte, faultByte}
 use Rattle.encoding.specs.Decode.{registrationOf, statusOf, statusPasses}
 
@@ -63,18 +63,8 @@ operator-back (suc (suc (suc n))) h = absurd (omega arith)
 
 -- STANDINGS
 
--- a fault comes back from its number
-fault-there : (f : Fault) → faultOf (faultNumber f) ≡ f
-fault-there F1 = refl
-fault-there F2 = refl
-fault-there F3 = refl
-fault-there F4 = refl
-fault-there F5 = refl
-fault-there F6 = refl
-fault-there F7 = refl
-
--- a number from 1 to 7 comes back from its fault
-fault-back : (n : ℕ) → 1 ≤ n → n ≤ 7 → n ≡ faultNumber (faultOf n)
+-- a number from 1 to 8 comes back from its fault
+fault-back : (n : ℕ) → 1 ≤ n → n ≤ 8 → n ≡ faultNumber (faultOf n)
 fault-back zero l h = absurd (omega arith)
 fault-back (suc zero) l h = refl
 fault-back (suc (suc zero)) l h = refl
@@ -83,7 +73,8 @@ fault-back (suc (suc (suc (suc zero)))) l h = refl
 fault-back (suc (suc (suc (suc (suc zero))))) l h = refl
 fault-back (suc (suc (suc (suc (suc (suc zero)))))) l h = refl
 fault-back (suc (suc (suc (suc (suc (suc (suc zero))))))) l h = refl
-fault-back (suc (suc (suc (suc (suc (suc (suc (suc n)))))))) l h = absurd (omega arith)
+fault-back (suc (suc (suc (suc (suc (suc (suc (suc zero)))))))) l h = refl
+fault-back (suc (suc (suc (suc (suc (suc (suc (suc (suc n))))))))) l h = absurd (omega arith)
 
 -- a standing comes back from its two bytes
 pub status-there : (s : Status) → statusOf (statusByte s) (faultByte s) ≡ s
@@ -92,15 +83,9 @@ status-there AtBarrier = refl
 status-there Ended = refl
 status-there (Faulted f) = rw (fault-there f)
 
--- a fault's number is 1 to 7
-fault-passes : (f : Fault) → leb 1 (faultNumber f) && leb (faultNumber f) 7 ≡ true
-fault-passes F1 = refl
-fault-passes F2 = refl
-fault-passes F3 = refl
-fault-passes F4 = refl
-fault-passes F5 = refl
-fault-passes F6 = refl
-fault-passes F7 = refl
+-- a fault's number is 1 to 8
+fault-passes : (f : Fault) → leb 1 (faultNumber f) && leb (faultNumber f) 8 ≡ true
+fault-passes f = let h = fault-range f in rw (le-leb 1 (faultNumber f) (h .0), le-leb (faultNumber f) 8 (h .1))
 
 -- its two bytes pass
 pub status-passes : (s : Status) → statusPasses (statusByte s) (faultByte s) ≡ true
@@ -122,8 +107,8 @@ status-back n f h = go (decide (eqb n 3))
   where
     go : (eqb n 3 ≡ true) ⊎ (eqb n 3 ≡ false) → (n ≡ statusByte (statusOf n f)) × (f ≡ faultByte (statusOf n f))
     go (inl e) =
-        let q = and-true (leb 1 f) (leb f 7) (rw e at h) in
-        rw (eqb-true n 3 e) (refl, fault-back f (leb-true 1 f (q .0)) (leb-true f 7 (q .1)))
+        let q = and-true (leb 1 f) (leb f 8) (rw e at h) in
+        rw (eqb-true n 3 e) (refl, fault-back f (leb-true 1 f (q .0)) (leb-true f 8 (q .1)))
     go (inr e) =
         let q = and-true (leb n 2) (eqb f 0) (rw e at h) in
         whole n f (leb-true n 2 (q .0)) (eqb-true f 0 (q .1))

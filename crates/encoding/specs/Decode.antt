@@ -72,9 +72,9 @@ stateOf b =
 
 -- WHEN BYTES ENCODE NO STATE
 
--- "a standing above 3; a fault byte that is not 1 to 7 where the standing is faulted, or not 0 where it is not"
+-- "a standing above 3; a fault byte that is not 1 to 8 where the standing is faulted, or not 0 where it is not"
 abbrev pub statusPasses : ℕ → ℕ → Bool
-statusPasses n f = cond (eqb n 3) (leb 1 f && leb f 7) (leb n 2 && eqb f 0)
+statusPasses n f = cond (eqb n 3) (leb 1 f && leb f 8) (leb n 2 && eqb f 0)
 
 -- "a reserved byte that is not 0"
 unfoldable pub frameEncodes : List ℕ → Bool

@@ -23,7 +23,7 @@ statusByte AtBarrier = 1
 statusByte Ended = 2
 statusByte (Faulted f) = 3
 
--- "the number of its fault, 1 to 7, where it has faulted; else 0"
+-- "the number of its fault, 1 to 8, where it has faulted; else 0"
 abbrev pub faultByte : Status → ℕ
 faultByte Running = 0
 faultByte AtBarrier = 0

@@ -12,8 +12,7 @@ use lib.Dec.{ltb}
 use borrow.Author.Tests.{ltb-true, ltb-false, lt-ltb, le-ltb}
 use Rattle.rules.specs.Search.{allBelow}
 use Rattle.rules.proofs.Tests.{and-true, and-intro, decide}
-use Rattle.rules.proofs.Search.{allBelow-at, allBelow-intro}
-use Rattle.places.proofs.Searches.{both}
+use Rattle.rules.proofs.Search.{allBelow-at, allBelow-intro, both}
 use Rattle.encoding.specs.Bytes.{part, allZero, partsAt, partsPass}
 use Rattle.encoding.proofs.FieldLaws.{sized}
 use Rattle.encoding.proofs.PartLaws.{partsAt-at, partsPass-at, turn-fits}

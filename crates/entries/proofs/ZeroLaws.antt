@@ -15,8 +15,7 @@ use Rattle.rules.specs.Search.{allBelow}
 use Rattle.rules.specs.State.{noFrame, noHold, frame, hold, bound}
 use Rattle.rules.specs.WellFormed.{isNoFrame, isNoHold, isNoAccumulator, isNoActivity, isRunning}
 use Rattle.rules.proofs.Tests.{and-true, and-intro, true-false}
-use Rattle.rules.proofs.Search.{allBelow-at}
-use Rattle.places.proofs.Searches.{both}
+use Rattle.rules.proofs.Search.{allBelow-at, both}
 use Rattle.encoding.specs.Bytes.{numberOf, part, byteAt, allZero, partsAt, partsPass}
 use Rattle.encoding.specs.Encode.{statusByte, faultByte}
 use Rattle.encoding.specs.Decode.{statusOf, statusPasses, frameAt, holdAt, activityAt, accumulatorAt, frameEncodes, holdEncodes, activityEncodes, accumulatorEncodes}

@@ -1,24 +1,25 @@
 -- The calls over bytes in turn follow the run of the rules, and so demand 3 holds for them.
-use Prim.Native.Nat.{ℕ}
+use Prim.Native.Nat.{ℕ, _+_}
 use native.Mathlib.Omega.{arith}
 use mathlib.Core.List.{List, [], _∷_, map}
 use mathlib.Core.Bool.{true, false, _&&_}
 use mathlib.Core.Path.{_≡_, refl, sym, ap, _∙_}
 use lib.ListN.{length}
 use lib.Dec.{leb, eqb}
-use borrow.Author.Tests.{eq-eqb, ne-eqb, leb-true, lt-leb}
+use borrow.Author.Tests.{eq-eqb, ne-eqb, leb-true, le-leb, lt-leb}
 use Rattle.program.specs.Table.{workLimit, numberOf}
 use Rattle.program.proofs.Basic.{Bytes}
-use Rattle.rules.specs.declared.state.Fault.the-variants.{F1, F2, F3, F4, F5, F6, F7}
+use Rattle.rules.specs.declared.state.Fault.{Fault}
 use Rattle.rules.specs.declared.state.Status.the-variants.{Running, AtBarrier, Ended, Faulted}
 use Rattle.rules.specs.declared.state.State.{State}
 use Rattle.rules.specs.declared.answer.Answer.{Answer}
 use Rattle.rules.specs.declared.answer.Answer.the-variants.{Accepted, Refused}
-use Rattle.rules.specs.State.{answerNumber}
+use Rattle.rules.specs.State.{faultNumber, answerNumber}
+use Rattle.rules.proofs.FaultNumbers.{fault-range}
 use Rattle.rules.specs.Steps.{base, startWith, start, step, ready}
 use Rattle.rules.specs.Runs.{runFrom, answersFrom, run, answers, isAccepted, isFault, taken, someFault}
 use Rattle.rules.specs.Demand3.{isOfRun, allOfRun, Demand3}
-use Rattle.rules.proofs.Tests.{and-true, and-intro, true-false}
+use Rattle.rules.proofs.Tests.{and-true, and-intro, or-right, true-false}
 use Rattle.rules.proofs.Demand3.{demand3}
 use Rattle.encoding.specs.Encode.{encodeState}
 use Rattle.encoding.specs.Decode.{encodes, stateOf}
@@ -69,19 +70,18 @@ between n e =
     let high = leb-true n 16 (q .1) in
     (ne-eqb n 0 (λ z. omega arith), lt-leb 101 n (omega arith))
 
+-- A fault's answer is one.
+fault-answer : (f : Fault) → isFaultNumber (100 + faultNumber f) ≡ true
+unfolding isFaultNumber
+fault-answer f = let h = fault-range f in rw (le-leb 101 (100 + faultNumber f) (omega arith), le-leb (100 + faultNumber f) 108 (omega arith))
+
 -- The number of an answer of a run tells whether the step was accepted, and whether it met a fault.
 fault-number : (a : Answer) → isOfRun a ≡ true → isFaultNumber (answerNumber a) ≡ isFault a
 unfolding isFaultNumber
 fault-number (Accepted Running) e = refl
 fault-number (Accepted AtBarrier) e = refl
 fault-number (Accepted Ended) e = refl
-fault-number (Accepted (Faulted F1)) e = refl
-fault-number (Accepted (Faulted F2)) e = refl
-fault-number (Accepted (Faulted F3)) e = refl
-fault-number (Accepted (Faulted F4)) e = refl
-fault-number (Accepted (Faulted F5)) e = refl
-fault-number (Accepted (Faulted F6)) e = refl
-fault-number (Accepted (Faulted F7)) e = refl
+fault-number (Accepted (Faulted f)) e = fault-answer f
 fault-number (Refused n) e = rw (between n e .1)
 
 taken-number : (a : Answer) → isOfRun a ≡ true → isTaken (answerNumber a) ≡ isAccepted a
@@ -89,13 +89,7 @@ unfolding isTaken isFaultNumber
 taken-number (Accepted Running) e = refl
 taken-number (Accepted AtBarrier) e = refl
 taken-number (Accepted Ended) e = refl
-taken-number (Accepted (Faulted F1)) e = refl
-taken-number (Accepted (Faulted F2)) e = refl
-taken-number (Accepted (Faulted F3)) e = refl
-taken-number (Accepted (Faulted F4)) e = refl
-taken-number (Accepted (Faulted F5)) e = refl
-taken-number (Accepted (Faulted F6)) e = refl
-taken-number (Accepted (Faulted F7)) e = refl
+taken-number (Accepted (Faulted f)) e = or-right (eqb (100 + faultNumber f) 0) _ (fault-answer f)
 taken-number (Refused n) e = rw (between n e .0, between n e .1)
 
 accepted-number : (a : Answer) → isAccepted a ≡ true → isTaken (answerNumber a) ≡ true

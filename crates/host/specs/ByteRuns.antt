@@ -48,7 +48,7 @@ pub record FollowsRun (t b order : List ℕ) : Type 0 where
 
 -- "100 plus f for fault f"
 unfoldable pub isFaultNumber : ℕ → Bool
-isFaultNumber n = leb 101 n && leb n 107
+isFaultNumber n = leb 101 n && leb n 108
 
 -- An accepted step: "0 for a step", or a fault.
 unfoldable pub isTaken : ℕ → Bool

@@ -25,12 +25,12 @@ use Rattle.rules.specs.Faults.{Env}
 use Rattle.rules.specs.Effects.{Effect, past, again, popped, pushed, stopped, endOf, nextOf, effectOf, failing, envOf}
 use Rattle.rules.specs.Steps.{base, at, fault, effect, spawns, makes, exceeds}
 use Rattle.rules.proofs.Tests.{true-false, decide}
-use Rattle.rules.proofs.Search.{someBelow-all}
+use Rattle.rules.proofs.Search.{someBelow-all, both}
 use Rattle.rules.proofs.Lists.{Stored, new, old, stored}
 use Rattle.rules.proofs.WellFormedHolds.{Fits, under-map}
 use Rattle.rules.proofs.WellFormedFacts.{Facts}
 use Rattle.rules.proofs.Shapes.{Replaced, dropped, resumed, created, Reheld, kept, replaced, Kind, ends, meets, forks, opens, loops, moves, kind, isNext}
-use Rattle.places.proofs.Searches.{both, some-alike}
+use Rattle.places.proofs.Searches.{some-alike}
 use Rattle.moves.specs.Exceeding.{overfull, isLast, someLast, overtakes, exceedsAt}
 
 -- WHAT IS MADE

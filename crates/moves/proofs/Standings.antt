@@ -4,7 +4,7 @@ use native.Mathlib.Omega.{arith}
 use native.Mathlib.Nat.{add-assoc}
 use mathlib.Core.Path.{_≡_, refl, sym, ap, _∙_, subst}
 use mathlib.Core.List.{List}
-use mathlib.Core.Bool.{Bool, true, false, _&&_}
+use mathlib.Core.Bool.{Bool, true, false, cond, _&&_}
 use mathlib.Core.Logic.{_⊎_, inl, inr}
 use lib.Dec.{leb, eqb}
 use borrow.Author.Tests.{leb-false, ne-eqb}
@@ -15,7 +15,6 @@ use Rattle.program.specs.Count.{workOf}
 use Rattle.program.specs.declared.command.Command.{Command}
 use Rattle.program.proofs.ShapeLaws.{accepted}
 use Rattle.rules.specs.declared.state.Fault.{Fault}
-use Rattle.rules.specs.declared.state.Fault.the-variants.{F1, F2, F3, F4, F5, F6, F7}
 use Rattle.rules.specs.declared.state.Activity.{Activity}
 use Rattle.rules.specs.declared.state.State.{State}
 use Rattle.rules.specs.declared.answer.Answer.the-variants.{Accepted, Refused}
@@ -25,10 +24,11 @@ use Rattle.rules.specs.declared.state.Status.{Status}
 use Rattle.rules.specs.declared.state.Status.the-variants.{Running, AtBarrier, Ended, Faulted}
 use Rattle.rules.specs.Tree.{here, nextOffset}
 use Rattle.rules.specs.WellFormed.{isPlaced, wellFormed}
-use Rattle.rules.specs.Faults.{faultFor}
+use Rattle.rules.specs.Faults.{faultFor, spoilt}
 use Rattle.rules.specs.Effects.{Effect, failing, stopped, alone, past, withTop, effectOf, envOf, withStores, applied}
-use Rattle.rules.specs.Steps.{base, at, fault, effect, refusal, exceeds, stepped, advance}
+use Rattle.rules.specs.Steps.{base, at, breach, fault, effect, refusal, exceeds, stepped, advance}
 use Rattle.rules.proofs.Tests.{true-false, decide}
+use Rattle.rules.proofs.FaultNumbers.{fault-there, fault-range}
 use Rattle.rules.proofs.Turn.{turn, effect-doing, effect-failed}
 use Rattle.rules.proofs.WellFormedStack.{stack-room}
 use Rattle.rules.proofs.WellFormedFacts.{Facts, ActivityFacts, facts}
@@ -39,22 +39,7 @@ use Rattle.fields.specs.Lent.{Lent, withAct, withSteps, onward}
 use Rattle.moves.specs.Moves.{Standing, Turned, GoesOn}
 
 faulty : (f : Fault) → faultNumber f ≡ 0 → ⊥
-faulty F1 e = omega arith
-faulty F2 e = omega arith
-faulty F3 e = omega arith
-faulty F4 e = omega arith
-faulty F5 e = omega arith
-faulty F6 e = omega arith
-faulty F7 e = omega arith
-
-fault-there : (f : Fault) → faultOf (faultNumber f) ≡ f
-fault-there F1 = refl
-fault-there F2 = refl
-fault-there F3 = refl
-fault-there F4 = refl
-fault-there F5 = refl
-fault-there F6 = refl
-fault-there F7 = refl
+faulty f e = let h = fault-range f .0 in omega arith
 
 module _ {p : Program} {s : State} {i work : ℕ} {c : Command} (w : Standing p s i work c) where
   known : Facts 65535 p s
@@ -88,9 +73,14 @@ module _ {p : Program} {s : State} {i work : ℕ} {c : Command} (w : Standing p 
       go (inl e) = absurd (n (ap opcode (sym (w .stands)) ∙ own .barrier e))
       go (inr e) = e
 
-  pub fault-here : fault p s i ≡ faultFor p (envOf s) i (act s i) c
-  unfolding fault
-  fault-here = ap (λ (x : Command). faultFor p (envOf s) i (act s i) x) (w .stands)
+  pub fault-at : fault p s i ≡ cond (spoilt p s i (act s i) c) 8 (faultFor p (envOf s) i (act s i) c)
+  unfolding fault breach
+  fault-at = rw (w .stands)
+
+  -- Of another command than END it is the breach.
+  pub fault-here : eqb (opcode c) 0 ≡ false → fault p s i ≡ faultFor p (envOf s) i (act s i) c
+  unfolding spoilt isEnd
+  fault-here e = fault-at ∙ rw e
 
   -- Number 17 as the code tests it.
   pub asks : {f : ℕ} {r : Bool} → f ≡ fault p s i → r ≡ exceedsAt work s (act s i) f c → r ≡ exceeds base p s (effect p s i)

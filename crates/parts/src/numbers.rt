@@ -18,6 +18,7 @@ pub fn fault_number(fault: Fault) -> u8
         Fault::F5 => 5,
         Fault::F6 => 6,
         Fault::F7 => 7,
+        Fault::F8 => 8,
     }
 }
 
@@ -32,6 +33,7 @@ pub fn fault_of(number: u8) -> Fault
         5 => Fault::F5,
         6 => Fault::F6,
         7 => Fault::F7,
+        8 => Fault::F8,
         _ => Fault::F1,
     }
 }

@@ -1,4 +1,4 @@
--- Who is inside a finish, found in one pass upwards: the marks of those passed, and how many of them are inside and unended.
+-- Who is inside a finish, found in one pass upwards: the marks of those passed, how many of them are inside and unended, and whether one of them has faulted.
 use Prim.Native.Nat.{ℕ, zero, suc, _+_, _≤_, _<_}
 use native.Mathlib.Omega.{arith}
 use mathlib.Core.Path.{_≡_, refl, sym, ap, _∙_}
@@ -10,21 +10,33 @@ use lib.Seq.{getD-set-same, getD-set-other}
 use lib.Dec.{leb, eqb}
 use borrow.Author.Count.{below-more}
 use borrow.Author.Tests.{lt-ltb, le-leb}
+use Rattle.rules.specs.declared.state.Status.{Status}
+use Rattle.rules.specs.declared.state.Status.the-variants.{Running, AtBarrier, Ended, Faulted}
 use Rattle.rules.specs.declared.state.State.{State}
-use Rattle.rules.specs.State.{ended}
-use Rattle.rules.specs.Search.{countBelow, chain}
+use Rattle.rules.specs.State.{act, isEnded, isFaulted, ended}
+use Rattle.rules.specs.Search.{someBelow, countBelow, chain}
 use Rattle.rules.specs.Tree.{spawnerOf, descends, inside}
+use Rattle.rules.specs.Faults.{faultedInside}
 use Rattle.rules.specs.Waiting.{unendedBelow, unendedInside}
-use Rattle.rules.proofs.Tests.{decide}
-use Rattle.rules.proofs.Search.{chain-above, chain-step}
+use Rattle.rules.proofs.Tests.{decide, true-false, not-true}
+use Rattle.rules.proofs.Search.{someBelow-all, chain-above, chain-step}
 use Rattle.rules.proofs.Counting.{counted, uncounted, last, count-alike, count-none}
 use Rattle.places.specs.Rooted.{Rooted}
+use Rattle.places.proofs.Searches.{some-more}
 
--- Of the activities below x: the marks are of those inside, and so many of these are unended.
-pub record Passed (s : State) (w first : ℕ) (marks : List Bool) (count x : ℕ) : Type 0 where
+-- Of the activities below x: the marks are of those inside, so many of these are unended, and whether one of these has faulted.
+pub record Passed (s : State) (w first : ℕ) (marks : List Bool) (count : ℕ) (found : Bool) (x : ℕ) : Type 0 where
   pub sized : length marks ≡ 64
   pub marked : (k : ℕ) → k < x → getD marks k false ≡ inside s w first k
   pub counts : count ≡ countBelow x (unendedInside s w first)
+  pub finds : found ≡ someBelow x (faultedInside s w first)
+
+-- Who has not ended has not faulted.
+unended-faultless : (t : Status) → isEnded t ≡ false → isFaulted t ≡ false
+unended-faultless Running e = refl
+unended-faultless AtBarrier e = refl
+unended-faultless Ended e = refl
+unended-faultless (Faulted f) e = absurd (true-false true refl e)
 
 -- Nobody up to the owner is inside.
 pub outside : (s : State) (w first x : ℕ) → x ≤ w → inside s w first x ≡ false
@@ -39,11 +51,27 @@ not-unended : (s : State) (w first x : ℕ) → inside s w first x ≡ false →
 unfolding unendedInside
 not-unended s w first x e = rw e
 
--- Where there is nobody above the owner, nobody is inside.
-pub none-above : (s : State) (w first : ℕ) → s .activities ≤ w → countBelow (s .activities) (unendedInside s w first) ≡ 0
-none-above s w first h = count-none (s .activities) (unendedInside s w first) (λ k l. not-unended s w first k (outside s w first k (omega arith)))
+not-faulted : (s : State) (w first x : ℕ) → inside s w first x ≡ false → faultedInside s w first x ≡ false
+unfolding faultedInside
+not-faulted s w first x e = rw e
 
-module _ (s : State) (r : Rooted s) (w first : ℕ) {marks : List Bool} {count x : ℕ} (p : Passed s w first marks count x) (low : w < x) (made : x < s .activities) where
+-- Where nobody below x is inside, nobody is counted or found.
+module _ (s : State) (w first x : ℕ) (h : (k : ℕ) → k < x → inside s w first k ≡ false) where
+  pub none-unended : 0 ≡ countBelow x (unendedInside s w first)
+  none-unended = sym (count-none x (unendedInside s w first) (λ k l. not-unended s w first k (h k l)))
+
+  pub none-faulted : false ≡ someBelow x (faultedInside s w first)
+  none-faulted = sym (someBelow-all x (faultedInside s w first) (λ k l e. true-false (faultedInside s w first k) e (not-faulted s w first k (h k l))))
+
+  pub passed-none : x ≤ 64 → Passed s w first (replicate 64 false) 0 false x
+  passed-none few = record {
+    sized = length-replicate 64 false;
+    marked = λ k l. getD-replicate 64 k false false (omega arith) ∙ sym (h k l);
+    counts = none-unended;
+    finds = none-faulted;
+  }
+
+module _ (s : State) (r : Rooted s) (w first : ℕ) {marks : List Bool} {count : ℕ} {found : Bool} {x : ℕ} (p : Passed s w first marks count found x) (low : w < x) (made : x < s .activities) where
   -- An activity is inside by its own spawning, or with its spawner.
   pub joined : {b : Bool} → b ≡ (eqb (spawnerOf s x) w && leb first x) || getD marks (spawnerOf s x) false → b ≡ inside s w first x
   unfolding inside
@@ -54,9 +82,10 @@ module _ (s : State) (r : Rooted s) (w first : ℕ) {marks : List Bool} {count x
       e ∙ ap (λ (u : Bool). (eqb (spawnerOf s x) w && leb first x) || u) (p .marked (spawnerOf s x) falls) ∙ sym (rw (lt-ltb w x low) at q)
 
   module _ {b : Bool} (e : b ≡ inside s w first x) where
-    -- One more is passed, with the count after it.
-    passed-on : {next : ℕ} → next ≡ countBelow (x + 1) (unendedInside s w first) → Passed s w first (set marks x b) next (x + 1)
-    passed-on n =
+    -- One more is passed, with the count after it, and by whether it has faulted.
+    passed-on : {next : ℕ} {f : Bool} → next ≡ countBelow (x + 1) (unendedInside s w first) → f ≡ faultedInside s w first x → {now : Bool} → now ≡ f || found
+        → Passed s w first (set marks x b) next now (x + 1)
+    passed-on n f o =
         let few = r .few in
         let long = p .sized in
         record {
@@ -65,39 +94,47 @@ module _ (s : State) (r : Rooted s) (w first : ℕ) {marks : List Bool} {count x
               below-more (λ (k : ℕ). getD (set marks x b) k false ≡ inside s w first k) x (λ k l. getD-set-other marks x k b false (λ q. omega arith) ∙ p .marked k l)
               (getD-set-same marks x b false (omega arith) ∙ e);
           counts = n;
+          finds = o ∙ rw (f, p .finds) (sym (some-more x (faultedInside s w first)));
         }
 
     -- It is not inside.
-    pub passed-outside : b ≡ false → Passed s w first (set marks x b) count (x + 1)
-    passed-outside f = passed-on (uncounted (unendedInside s w first) x count false (p .counts) (sym (not-unended s w first x (sym e ∙ f))) refl)
+    pub passed-outside : b ≡ false → Passed s w first (set marks x b) count found (x + 1)
+    passed-outside f =
+        let n : inside s w first x ≡ false = sym e ∙ f in
+        passed-on (uncounted (unendedInside s w first) x count false (p .counts) (sym (not-unended s w first x n)) refl) (sym (not-faulted s w first x n)) refl
 
-    -- It is inside, and has ended or not.
+    -- It is inside, and has not ended, ended well, or faulted.
     module _ (f : b ≡ true) {u : Bool} (g : u ≡ not (ended s x)) where
       looked : u ≡ unendedInside s w first x
       unfolding unendedInside
       looked = g ∙ rw (sym e ∙ f)
 
-      pub passed-ended : u ≡ false → Passed s w first (set marks x b) count (x + 1)
-      passed-ended h = passed-on (uncounted (unendedInside s w first) x count u (p .counts) looked h)
+      fault-looked : {v : Bool} → v ≡ isFaulted (act s x .status) → v ≡ faultedInside s w first x
+      unfolding faultedInside
+      fault-looked h = h ∙ rw (sym e ∙ f)
 
-      pub passed-unended : u ≡ true → Passed s w first (set marks x b) (count + 1) (x + 1)
-      passed-unended h = passed-on (counted (unendedInside s w first) x count u (p .counts) looked h)
+      pub passed-unended : u ≡ true → Passed s w first (set marks x b) (count + 1) found (x + 1)
+      passed-unended h =
+          passed-on (counted (unendedInside s w first) x count u (p .counts) looked h)
+          (fault-looked (sym (unended-faultless (act s x .status) (not-true (ended s x) (sym g ∙ h))))) refl
 
--- Nobody below x is inside.
-pub passed-none : (s : State) (w first x : ℕ) → ((k : ℕ) → k < x → inside s w first k ≡ false) → x ≤ 64 → Passed s w first (replicate 64 false) 0 x
-passed-none s w first x h few = record {
-  sized = length-replicate 64 false;
-  marked = λ k l. getD-replicate 64 k false false (omega arith) ∙ sym (h k l);
-  counts = sym (count-none x (unendedInside s w first) (λ k l. not-unended s w first k (h k l)));
-}
+      module _ (h : u ≡ false) {v : Bool} (k : v ≡ isFaulted (act s x .status)) where
+        same-count : count ≡ countBelow (x + 1) (unendedInside s w first)
+        same-count = uncounted (unendedInside s w first) x count u (p .counts) looked h
 
--- Nobody is inside, or all are passed.
-pub inside-none : (s : State) (w first : ℕ) → ((k : ℕ) → k < s .activities → inside s w first k ≡ false) → 0 ≡ countBelow (s .activities) (unendedInside s w first)
-inside-none s w first h = sym (count-none (s .activities) (unendedInside s w first) (λ k l. not-unended s w first k (h k l)))
+        pub passed-ended : v ≡ false → Passed s w first (set marks x b) count found (x + 1)
+        passed-ended n = passed-on same-count (fault-looked k) (rw n)
 
-pub passed-all : (s : State) (w first : ℕ) {marks : List Bool} {count x : ℕ} → Passed s w first marks count x → x ≤ s .activities → s .activities ≤ x
-    → count ≡ countBelow (s .activities) (unendedInside s w first)
-passed-all s w first {count = count} {x = x} p h l = last (unendedInside s w first) x (s .activities) count h l (p .counts)
+        pub passed-faulted : v ≡ true → Passed s w first (set marks x b) count true (x + 1)
+        passed-faulted n = passed-on same-count (fault-looked k) (rw n)
+
+-- All are passed.
+module _ (s : State) (w first : ℕ) {marks : List Bool} {count : ℕ} {found : Bool} {x : ℕ} (p : Passed s w first marks count found x) (h : x ≤ s .activities) (l : s .activities ≤ x) where
+  pub all-counted : count ≡ countBelow (s .activities) (unendedInside s w first)
+  all-counted = last (unendedInside s w first) x (s .activities) count h l (p .counts)
+
+  pub all-searched : found ≡ someBelow (s .activities) (faultedInside s w first)
+  all-searched = let q : x ≡ s .activities = omega arith in p .finds ∙ ap (λ (n : ℕ). someBelow n (faultedInside s w first)) q
 
 -- ALL DESCENDANTS
 

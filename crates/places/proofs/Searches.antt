@@ -6,7 +6,7 @@ use mathlib.Core.Path.{_≡_, refl, sym, _∙_}
 use mathlib.Core.Bool.{Bool, true, false, _||_, _&&_}
 use Rattle.rules.specs.Search.{someBelow}
 use Rattle.rules.proofs.Tests.{and-true, and-intro}
-use Rattle.rules.proofs.Search.{someBelow-witness, someBelow-intro}
+use Rattle.rules.proofs.Search.{someBelow-witness, someBelow-intro, both}
 
 -- One index more.
 pub some-more : (k : ℕ) (f : ℕ → Bool) → someBelow (k + 1) f ≡ f k || someBelow k f
@@ -23,12 +23,6 @@ module _ (f : ℕ → Bool) (k : ℕ) where
 
   pub none : (n : ℕ) → k ≤ n → n ≤ k → someBelow k f ≡ false → false ≡ someBelow n f
   none n h l e = let q : k ≡ n = omega arith in sym (rw q at e)
-
--- the same answer, from the one to the other and back
-pub both : (a b : Bool) → (a ≡ true → b ≡ true) → (b ≡ true → a ≡ true) → a ≡ b
-both true b p q = sym (p refl)
-both false true p q = q refl
-both false false p q = refl
 
 -- Two searches over tests that agree.
 pub some-alike : (n : ℕ) (f g : ℕ → Bool) → ((k : ℕ) → k < n → f k ≡ g k) → someBelow n f ≡ someBelow n g

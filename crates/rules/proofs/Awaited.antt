@@ -11,7 +11,7 @@ use Rattle.rules.specs.declared.state.State.{State}
 use Rattle.rules.specs.Search.{someBelow}
 use Rattle.rules.specs.State.{act, ended}
 use Rattle.rules.specs.Waiting.{waitsFor, awaitedAt}
-use Rattle.rules.specs.Steps.{at, fault, awaited, waits, refusal}
+use Rattle.rules.specs.Steps.{at, breach, awaited, waits, refusal}
 use Rattle.rules.proofs.Tests.{and-true}
 use Rattle.rules.proofs.Counting.{count-some}
 
@@ -26,13 +26,13 @@ module _ (p : Program) (s : State) (i : ℕ) where
 
   -- Of one that is spawned and has not ended.
   module _ (l : i < s .activities) (u : ended s i ≡ false) where
-    pub awaited-live : awaited p s i ≡ cond (eqb (fault p s i) 0) (awaitedAt p s i (act s i) on) 0
+    pub awaited-live : awaited p s i ≡ cond (eqb (breach p s i) 0) (awaitedAt p s i (act s i) on) 0
     unfolding awaited
     awaited-live = rw (lt-ltb i (s .activities) l, u)
 
-    pub waits-live : waits p s i ≡ eqb (fault p s i) 0 && waitsAt p s i (act s i) on
+    pub waits-live : waits p s i ≡ eqb (breach p s i) 0 && waitsAt p s i (act s i) on
     unfolding waits awaitedAt
-    waits-live = rw awaited-live (go (eqb (fault p s i) 0))
+    waits-live = rw awaited-live (go (eqb (breach p s i) 0))
       where
         go : (b : Bool) → ltb 0 (cond b (awaitedAt p s i (act s i) on) 0) ≡ b && waitsAt p s i (act s i) on
         go true = count-some (s .activities) (waitsFor p s i (act s i) on)
@@ -42,7 +42,7 @@ module _ (p : Program) (s : State) (i : ℕ) where
   pub record Waiting : Type 0 where
     pub spawned : i < s .activities
     pub unended : ended s i ≡ false
-    pub faultless : fault p s i ≡ 0
+    pub faultless : breach p s i ≡ 0
     pub some : waitsAt p s i (act s i) on ≡ true
 
   pub waiting-parts : waits p s i ≡ true → Waiting
@@ -52,7 +52,7 @@ module _ (p : Program) (s : State) (i : ℕ) where
       let r = and-true (not (ended s i)) _ (q .1) in
       let l = ltb-true i (s .activities) (q .0) in
       let u = not-true (ended s i) (r .0) in
-      record { spawned = l; unended = u; faultless = eqb-true (fault p s i) 0 (r .1); some = and-true (eqb (fault p s i) 0) _ (sym (waits-live l u) ∙ e) .1 }
+      record { spawned = l; unended = u; faultless = eqb-true (breach p s i) 0 (r .1); some = and-true (eqb (breach p s i) 0) _ (sym (waits-live l u) ∙ e) .1 }
     where
       guarded : (b : Bool) (n : ℕ) → ltb 0 (cond b n 0) ≡ true → b ≡ true
       guarded true n h = refl

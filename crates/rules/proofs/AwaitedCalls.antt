@@ -11,7 +11,6 @@ use Rattle.program.specs.Bodies.{Program, programOf}
 use Rattle.program.specs.Table.{numberOf}
 use Rattle.program.proofs.NumberLaws.{number-small}
 use Rattle.rules.specs.declared.state.Fault.{Fault}
-use Rattle.rules.specs.declared.state.Fault.the-variants.{F1, F2, F3, F4, F5, F6, F7}
 use Rattle.rules.specs.declared.state.Status.{Status}
 use Rattle.rules.specs.declared.state.Status.the-variants.{Running, AtBarrier, Ended, Faulted}
 use Rattle.rules.specs.declared.state.State.{State}
@@ -26,13 +25,7 @@ use Rattle.rules.proofs.Awaited.{awaited-zero}
 use Rattle.rules.proofs.Calls.{start-taken}
 
 fault-other : (f : Fault) → eqb (100 + faultNumber f) 16 ≡ false
-fault-other F1 = refl
-fault-other F2 = refl
-fault-other F3 = refl
-fault-other F4 = refl
-fault-other F5 = refl
-fault-other F6 = refl
-fault-other F7 = refl
+fault-other f = ne-eqb (100 + faultNumber f) 16 (λ e. omega arith)
 
 -- A step that is taken is not answered with 16.
 taken-other : (x : Status) → eqb (statusAnswer x) 16 ≡ false

@@ -5,6 +5,7 @@ pub mod Awaited
 pub mod Sums
 pub mod Lists
 pub mod Sized
+pub mod FaultNumbers
 pub mod Turn
 pub mod WellFormedPlaces
 pub mod WellFormedStack
@@ -19,6 +20,7 @@ pub mod StepLaws
 pub mod PersistBehind
 pub mod PersistTree
 pub mod Persist
+pub mod PersistFault
 pub mod HistoryOpen
 pub mod History
 pub mod Shapes

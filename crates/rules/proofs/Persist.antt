@@ -1,4 +1,4 @@
--- An activity that can step keeps that right while another steps, in every well-formed state, reached or not. Its record is untouched; it meets the same fault
+-- An activity that can step keeps that right while another steps, in every well-formed state, reached or not. Its record is untouched; it breaches the same rule
 -- or none, since accumulators keep their owners; and whom it would wait for after the step it waited for before.
 use Prim.Native.Nat.{ℕ, _<_}
 use native.Mathlib.Omega.{arith}
@@ -22,7 +22,7 @@ use Rattle.rules.specs.Faults.{unbound, numberUnder, readFault, faultFor
 use Rattle.rules.specs.Waiting.{behindOf, unendedBelow, unendedInside, waitsFor}
 use Rattle.rules.specs.Effects.{one, lent, child, envOf, applied}
 use Rattle.rules.specs.WellFormed.{wellFormed}
-use Rattle.rules.specs.Steps.{Limits, at, fault, waits, effect, refusal, exceeds, canStep}
+use Rattle.rules.specs.Steps.{Limits, at, breach, waits, effect, refusal, exceeds, canStep}
 use Rattle.rules.proofs.Tests.{and-true, and-intro, and-false, true-false, decide}
 use Rattle.rules.proofs.Search.{Witness, someBelow-witness, someBelow-intro, someBelow-all}
 use Rattle.rules.proofs.Awaited.{waitsAt, waits-live}
@@ -154,12 +154,12 @@ module _ (l : Limits) {p : Program} (ok : Accepted p) {s : State} (f : Facts (l 
     facts-x = f .spawned x (u .spawned)
 
     -- its record is untouched
-    record-old : act (after p s i) x ≡ act s x
+    pub record-old : act (after p s i) x ≡ act s x
     record-old = act-old s i (effect p s i) x (u .spawned) d
 
-    -- it meets the same fault or none
-    same-fault : faultFor p (envOf (after p s i)) x (act s x) (here p (top (act s x)) .command) ≡ faultFor p (envOf s) x (act s x) (here p (top (act s x)) .command)
-    same-fault =
+    -- it breaches the same rule or none
+    pub same-breach : faultFor p (envOf (after p s i)) x (act s x) (here p (top (act s x)) .command) ≡ faultFor p (envOf s) x (act s x) (here p (top (act s x)) .command)
+    same-breach =
         fault-same p s (after p s i) x (act s x)
         (λ n h e. owner-old s (effect p s i) (shape-of .naming) (numberUnder (act s x) n) (omega (arith, facts-x .bounds n h, eqb-false (bound (act s x) n) 0 e)))
         (here p (top (act s x)) .command) (at-sound ok f x (u .spawned) (u .unended) .ranged)
@@ -193,10 +193,10 @@ module _ (l : Limits) {p : Program} (ok : Accepted p) {s : State} (f : Facts (l 
 
     -- so it does not wait
     still-moves : waits p (after p s i) x ≡ false
-    unfolding at fault
+    unfolding at breach
     still-moves =
         waits-live p (after p s i) x kept (rw record-old (u .unended))
-        ∙ rw (command-old, record-old, same-fault) (go (decide (eqb (faultFor p (envOf s) x (act s x) (here p (top (act s x)) .command)) 0)) (sym (waits-live p s x (u .spawned) (u .unended)) ∙ u .moves))
+        ∙ rw (command-old, record-old, same-breach) (go (decide (eqb (faultFor p (envOf s) x (act s x) (here p (top (act s x)) .command)) 0)) (sym (waits-live p s x (u .spawned) (u .unended)) ∙ u .moves))
       where
         command-old : at p (after p s i) x .command ≡ here p (top (act s x)) .command
         command-old = rw record-old

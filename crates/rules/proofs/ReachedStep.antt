@@ -4,21 +4,25 @@ use Prim.Native.Nat.{ℕ, _+_, _≤_, _<_}
 use native.Mathlib.Omega.{arith}
 use mathlib.Core.Bool.{Bool, true, false, cond}
 use mathlib.Core.Path.{_≡_, refl, sym, ap, _∙_, subst}
+use mathlib.Core.Logic.{_⊎_, inl, inr}
 use lib.Dec.{ltb, leb}
+use borrow.Author.Tests.{ltb-true}
 use Rattle.program.specs.declared.command.Command.{Command}
 use Rattle.program.specs.declared.command.Command.the-variants.{Next}
 use Rattle.rules.specs.declared.state.Status.the-variants.{Ended}
 use Rattle.rules.specs.declared.state.Activity.{Activity}
 use Rattle.rules.specs.declared.state.State.{State}
+use Rattle.program.specs.Command.{isEnd}
 use Rattle.program.specs.Bodies.{Program}
 use Rattle.program.specs.Count.{ownActivities, activitiesOf, ownClocks, ownAccumulators, ownWork}
 use Rattle.program.proofs.Shape.{Accepted}
 use Rattle.rules.specs.State.{act, ended, isAtBarrier, top}
 use Rattle.rules.specs.Clocks.{holds}
-use Rattle.rules.specs.Faults.{Env}
+use Rattle.rules.specs.Tree.{inFinishBody}
+use Rattle.rules.specs.Faults.{Env, spoilt}
 use Rattle.rules.specs.Effects.{envOf, applied, Effect, one, Spawned, spawnedCount, nobody, clockedCount, past, pushed, endOf, again, popped, nextOf, stopped}
-use Rattle.rules.specs.Steps.{at, refusal, effect, fault}
-use Rattle.rules.proofs.Tests.{true-false}
+use Rattle.rules.specs.Steps.{at, refusal, effect, breach, fault}
+use Rattle.rules.proofs.Tests.{and-true, true-false}
 use Rattle.rules.proofs.Sums.{sumBelow-at, upd, upd-other, upd-same}
 use Rattle.rules.proofs.Sized.{SizedActivity}
 use Rattle.rules.proofs.Shapes.{meets, isNext, Counts, counts, OfChild, Kind, ends, forks, opens, loops, moves, kind, faulty}
@@ -28,8 +32,8 @@ use Rattle.rules.proofs.VirtualTime.{Fine, later, fine-self, fine-born,
 use Rattle.rules.proofs.Containment.{held-turned, born-after, Opening}
 use Rattle.rules.proofs.Stack.{Stack}
 use Rattle.rules.proofs.Potential.{pend, pend-ended}
-use Rattle.rules.proofs.Spending.{spent, pendChild, spends, standing, stack-born, Left, left-by, fault-pend}
-use Rattle.rules.proofs.Turn.{turn, doing, failed, by-fault}
+use Rattle.rules.proofs.Spending.{spent, pendChild, spends, standing, stack-born, Left, left-by, fault-pend, spoilt-pend}
+use Rattle.rules.proofs.Turn.{turn, no-breach, fault-ways, doing, failed, by-fault}
 use Rattle.rules.proofs.Sizes.{size-self, size-born, size-stopped}
 use Rattle.rules.proofs.Pending.{total, spent-work, next-makes, spent-own, next-work, work-some, total-applied}
 use Rattle.rules.proofs.Reached.{Inv, Reached}
@@ -127,7 +131,7 @@ module _ (p : Program) (ok : Accepted p) (few : activitiesOf p ≤ 64) (s : Stat
       → Inv p (applied s i (doing p s i))
       (upd (upd (g .vt) (s .activities) (g .vt i)) i (later (g .vt i) (at p s i .command) (isAtBarrier (act s i .status))))
       (upd (g .base) (s .clocks) (g .vt i))
-  unfolding at fault
+  unfolding at breach
   doing-inv f =
       inv-applied p s (g .vt) (g .base) (g .inv) i (doing p s i)
       (record {
@@ -136,7 +140,7 @@ module _ (p : Program) (ok : Accepted p) (few : activitiesOf p ≤ 64) (s : Stat
         fits = doing-fits;
         same-spawner = same-spawner its;
         holdings = held-turned (s .clocks) (act s i) (doing p s i .self) (turned its);
-        child = born-after (size .holds8) f its;
+        child = born-after (size .holds8) (no-breach p s i f) its;
         opening = left .opening;
       })
       vt′ base′ (λ c l. upd-other (g .base) (s .clocks) (g .vt i) c (λ z. omega arith))
@@ -145,7 +149,7 @@ module _ (p : Program) (ok : Accepted p) (few : activitiesOf p ≤ 64) (s : Stat
       (subst (λ v. Fine made′ base′ v i (doing p s i .self)) (sym now)
       (fine-self p (envOf s) (g .base) (g .vt i) i (act s i) (g .inv .fine i h) r (standing p ok s i (act s i) st r (g .inv .meets i h)) its))
       (subst (λ v. OfChild (Fine made′ base′ v (s .activities)) (doing p s i .spawned)) (sym born-time)
-      (fine-born p (envOf s) (g .base) (g .vt i) i (act s i) (g .inv .fine i h) r made′ (s .activities) (grows (s .clocks) (doing p s i .clocked)) h (size .holds8) f its))
+      (fine-born p (envOf s) (g .base) (g .vt i) i (act s i) (g .inv .fine i h) r made′ (s .activities) (grows (s .clocks) (doing p s i .clocked)) h (size .holds8) (no-breach p s i f) its))
       (left .stack) (left .meets) (stack-born p ok s i (act s i) st r (g .inv .meets i h) (at p s i .command) refl its)
       (rw now (omega (arith, later-slow (g .vt i) (at p s i .command) (isAtBarrier (act s i .status)), g .inv .slow i h)))
       (any-child (vt′ (s .activities) ≤ s .steps + 1) (rw born-time (omega (arith, g .inv .slow i h))) (doing p s i .spawned))
@@ -202,12 +206,17 @@ module _ (p : Program) (ok : Accepted p) (few : activitiesOf p ≤ 64) (s : Stat
 
   -- The command and an END at least are never done.
   pub failed-work : (fault p s i ≡ 0 → ⊥) → total ownWork p 1 (applied s i (failed p s i)) + 2 ≤ total ownWork p 1 s
-  unfolding at fault
-  failed-work f =
-      let q = faulty f its in
-      let x = failed-total ownWork 1 in
-      let y = fault-pend p ok s i (act s i) (g .inv .stacks i h r) r (g .inv .meets i h) (at p s i .command) refl ownWork 1 work-some (q .0) (q .1) in
-      omega arith
+  unfolding at breach spoilt inFinishBody
+  failed-work f = let x = failed-total ownWork 1 in let y = lost (fault-ways p s i f) in omega arith
+    where
+      lost : (breach p s i ≡ 0 → ⊥) ⊎ (spoilt p s i (act s i) (at p s i .command) ≡ true) → 2 ≤ pend ownWork p 1 (act s i)
+      lost (inl b) =
+          let q = faulty b its in
+          fault-pend p ok s i (act s i) (g .inv .stacks i h r) r (g .inv .meets i h) (at p s i .command) refl ownWork 1 work-some (q .0) (q .1)
+      lost (inr e) =
+          let q = and-true (isEnd (at p s i .command)) _ e in
+          let d = and-true (ltb 1 (act s i .depth)) _ (and-true (inFinishBody p (act s i)) _ (q .1) .0) in
+          spoilt-pend p ok s i (act s i) (g .inv .stacks i h r) r (g .inv .meets i h) (at p s i .command) refl ownWork 1 work-some (q .0) (ltb-true 1 (act s i .depth) (d .0))
 
   -- The state after it is reached.
   pub failed-reached : (fault p s i ≡ 0 → ⊥) → Reached p (applied s i (failed p s i))

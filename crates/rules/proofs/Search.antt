@@ -4,7 +4,7 @@ use native.Mathlib.Omega.{arith}
 use native.Mathlib.Nat.{not-suc-le-zero}
 use native.Mathlib.Decide.{ℕ-discrete}
 use mathlib.Core.Bool.{Bool, true, false, _||_, _&&_}
-use mathlib.Core.Path.{_≡_, refl}
+use mathlib.Core.Path.{_≡_, refl, sym}
 use mathlib.Core.Logic.{_⊎_, inl, inr}
 use lib.Dec.{ltb, eqb}
 use borrow.Author.Tests.{ltb-true, lt-ltb, eqb-true}
@@ -33,6 +33,12 @@ someBelow-intro (suc n) f i h e = go (someBelow-intro n f i) (ℕ-discrete i n)
     go : (i < n → f i ≡ true → someBelow n f ≡ true) → Dec (i ≡ n) → f n || someBelow n f ≡ true
     go ih (yes p) = or-left (f n) _ (rw p at e)
     go ih (no p) = or-right (f n) _ (ih (omega arith) e)
+
+-- The same answer, from the one to the other and back.
+pub both : (a b : Bool) → (a ≡ true → b ≡ true) → (b ≡ true → a ≡ true) → a ≡ b
+both true b p q = sym (p refl)
+both false true p q = q refl
+both false false p q = refl
 
 pub someBelow-none : (n : ℕ) (f : ℕ → Bool) → someBelow n f ≡ false → (i : ℕ) → i < n → f i ≡ false
 someBelow-none n f e i h = go (decide (f i))

@@ -18,6 +18,7 @@ use Rattle.program.proofs.ShapeRows.{saying, times-is, work-is, activities-is, 
 use Rattle.rules.specs.State.{noHold, isAtBarrier}
 use Rattle.rules.specs.Clocks.{quiesce}
 use Rattle.rules.specs.Faults.{Env, faultFor}
+use Rattle.rules.proofs.Tests.{true-false}
 use Rattle.rules.specs.Effects.{Effect, endOf, nobody, nextOf, past, one, child, pushed, withHolds, withRegister, withNames, effectOf, repeatOf, spawnedCount, clockedCount, writtenCount, Spawned, Write, keep, make, offer, reset, Stored, withStores}
 
 -- The command is NEXT.
@@ -190,7 +191,7 @@ module _ {p : Program} {e : Env} {i : ℕ} {a : Activity} {c : Command} {x : Eff
   born P f (loops k b q s n) = rw n tt
   born P f (moves b g h t k s n) = rw n tt
 
-  -- Who meets a fault stands neither on END nor on NEXT.
+  -- Whoever breaches a rule stands neither on END nor on NEXT.
   pub faulty : (faultFor p e i a c ≡ 0 → ⊥) → Kind p e i a c x → (isEnd c ≡ false) × (isNext c ≡ false)
   unfolding faultFor isEnd isNext
   faulty f (ends q s n) = absurd (f (rw q))
@@ -199,3 +200,13 @@ module _ {p : Program} {e : Env} {i : ℕ} {a : Activity} {c : Command} {x : Eff
   faulty f (opens b q s n) = (rw q, rw q)
   faulty f (loops k b q s n) = (rw q, rw q)
   faulty f (moves b g h t k s n) = (g, h)
+
+  -- END is the command of its kind.
+  pub is-end : Kind p e i a c x → isEnd c ≡ true → c ≡ End
+  unfolding isEnd
+  is-end (ends q s n) l = q
+  is-end (meets q s n) l = absurd (true-false (isEnd c) l (rw q))
+  is-end (forks b m q s n) l = absurd (true-false (isEnd c) l (rw q))
+  is-end (opens b q s n) l = absurd (true-false (isEnd c) l (rw q))
+  is-end (loops k b q s n) l = absurd (true-false (isEnd c) l (rw q))
+  is-end (moves b g h t k s n) l = absurd (true-false (isEnd c) l g)

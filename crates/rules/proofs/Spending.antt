@@ -8,13 +8,13 @@ use mathlib.Core.Path.{_≡_, refl, sym, ap, _∙_, subst}
 use mathlib.Core.Logic.{_⊎_, inl, inr}
 use lib.ListN.{length}
 use lib.Dec.{ltb, leb}
-use borrow.Author.Tests.{ltb-true, ltb-false, leb-true, leb-false}
+use borrow.Author.Tests.{ltb-true, ltb-false, leb-true, leb-false, lt-leb, eqb-true}
 use Rattle.program.specs.declared.command.Command.{Command}
 use Rattle.program.specs.declared.command.Command.the-variants.{Next}
 use Rattle.rules.specs.declared.state.Status.the-variants.{Running, AtBarrier, Ended}
 use Rattle.rules.specs.declared.state.Activity.{Activity}
 use Rattle.rules.specs.declared.state.State.{State}
-use Rattle.program.specs.Command.{isEnd, named, times}
+use Rattle.program.specs.Command.{opcode, isEnd, named, times}
 use Rattle.program.specs.Bodies.{Program, tailOf}
 use Rattle.program.specs.Count.{tally}
 use Rattle.program.proofs.Shape.{Accepted}
@@ -262,3 +262,18 @@ module _ (p : Program) (ok : Accepted p) (s : State) (i : ℕ) (a : Activity) (s
           let x = before n in
           let r = pend-running own p late (past p a) u b in
           omega (arith, w c, w (here p (top (past p a)) .command))
+
+      -- So does a fault at the END of a body above another: that END, and the next command below or of the next run.
+      pub spoilt-pend : ((c : Command) → 0 < own c) → isEnd c ≡ true → 1 < a .depth → 2 ≤ Pend a
+      unfolding endOf again popped past cost isEnd isNext
+      spoilt-pend w l d =
+          let n : isNext c ≡ false = rw (eqb-true (opcode c) 0 l) in
+          let y = end-left l n in
+          let x = before n in
+          let k : endOf p a .status ≡ a .status = rw (lt-leb (a .depth) 1 d) (same (ltb 1 (top a .runs))) in
+          let r = pend-running own p late (endOf p a) (rw k u) (rw k (standing (rw q n))) in
+          omega (arith, w c, w (here p (top (endOf p a)) .command))
+        where
+          same : (z : Bool) → cond z (again a) (popped p a) .status ≡ a .status
+          same true = refl
+          same false = refl

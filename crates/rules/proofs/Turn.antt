@@ -4,6 +4,7 @@ use native.Mathlib.Omega.{arith}
 use native.Mathlib.Decide.{ℕ-discrete}
 use mathlib.Core.Bool.{Bool, true, false, cond}
 use mathlib.Core.Path.{_≡_, refl}
+use mathlib.Core.Logic.{_⊎_, inl, inr}
 use lib.Dec.{ltb}
 use borrow.Author.Tests.{ltb-true, lt-ltb, eq-eqb, ne-eqb}
 use Rattle.program.specs.Bodies.{Program}
@@ -11,7 +12,8 @@ use Rattle.rules.specs.declared.state.Status.the-variants.{Faulted}
 use Rattle.rules.specs.declared.state.State.{State}
 use Rattle.rules.specs.State.{act, ended, faultOf}
 use Rattle.rules.specs.Effects.{Effect, envOf, effectOf, failing, applied}
-use Rattle.rules.specs.Steps.{at, fault, waits, effect, refusal}
+use Rattle.rules.specs.Steps.{at, breach, fault, waits, effect, refusal}
+use Rattle.rules.specs.Faults.{spoilt}
 
 -- An activity that numbers 14 to 16 do not turn down.
 pub record Turn (p : Program) (s : State) (i : ℕ) : Type 0 where
@@ -34,6 +36,24 @@ turn p s i e = go (ltb i (s .activities)) refl (ended s i) refl (waits p s i) re
 pub turn-back : (p : Program) (s : State) (i : ℕ) → Turn p s i → refusal p s i ≡ 0
 unfolding refusal
 turn-back p s i t = rw (lt-ltb i (s .activities) (t .spawned), t .unended, t .moves)
+
+-- No fault is no breach, and nothing faulted that END of a FINISH body passes on.
+pub no-breach : (p : Program) (s : State) (i : ℕ) → fault p s i ≡ 0 → breach p s i ≡ 0
+unfolding fault
+no-breach p s i = go (spoilt p s i (act s i) (at p s i .command))
+  where
+    go : (b : Bool) → cond b 8 (breach p s i) ≡ 0 → breach p s i ≡ 0
+    go true e = absurd (omega arith)
+    go false e = e
+
+-- A fault is one of the two.
+pub fault-ways : (p : Program) (s : State) (i : ℕ) → (fault p s i ≡ 0 → ⊥) → (breach p s i ≡ 0 → ⊥) ⊎ (spoilt p s i (act s i) (at p s i .command) ≡ true)
+unfolding fault
+fault-ways p s i = go (spoilt p s i (act s i) (at p s i .command))
+  where
+    go : (b : Bool) → (cond b 8 (breach p s i) ≡ 0 → ⊥) → (breach p s i ≡ 0 → ⊥) ⊎ (b ≡ true)
+    go true f = inr refl
+    go false f = inl f
 
 -- The effect of the command.
 abbrev pub doing : Program → State → ℕ → Effect

@@ -18,7 +18,7 @@ use Rattle.rules.specs.Tree.{descends, inside, inFinishBody}
 use Rattle.rules.specs.Faults.{Env, readFault, unbound, numberUnder, faultFor}
 use Rattle.rules.specs.Waiting.{behindOf, unendedInside, unendedBelow, waitsFor}
 use Rattle.rules.specs.Effects.{envOf}
-use Rattle.rules.specs.Steps.{at, fault, waits}
+use Rattle.rules.specs.Steps.{at, breach, waits}
 use Rattle.rules.proofs.Tests.{and-true, true-false, not-true, decide}
 use Rattle.rules.proofs.Search.{someBelow-witness, someBelow-none}
 use Rattle.rules.proofs.Awaited.{waiting-parts}
@@ -123,7 +123,7 @@ waiting-for p s i x z l m (Atom k) f e = absurd (true-false _ e refl)
 
 -- Who waits, waits at one of the three.
 waiting : (p : Program) (s : State) (i : ℕ) → Bounded s → i < s .activities → waits p s i ≡ true → Waits (view p s) i
-unfolding fault
+unfolding breach
 waiting p s i z l e =
     let q = waiting-parts p s i e in
     let w = someBelow-witness (s .activities) (waitsFor p s i (act s i) (at p s i .command)) (q .some) in

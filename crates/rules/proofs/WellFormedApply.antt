@@ -16,11 +16,11 @@ use Rattle.rules.specs.Search.{someBelow}
 use Rattle.rules.specs.State.{noAccumulator, act, top, hold, accumulator, ended}
 use Rattle.rules.specs.Tree.{here}
 use Rattle.rules.specs.Effects.{Spawned, nobody, one, Write, keep, make, offer, reset, Effect, spawnedCount, clockedCount, writtenCount, withValue, applied}
-use Rattle.rules.specs.Steps.{Limits, at, fault, effect, spawns, makes, exceeds}
+use Rattle.rules.specs.Steps.{Limits, at, breach, effect, spawns, makes, exceeds}
 use Rattle.rules.proofs.Tests.{and-false, or-false}
 use Rattle.rules.proofs.Search.{someBelow-none}
 use Rattle.rules.proofs.Lists.{Stored, new, old, stored}
-use Rattle.rules.proofs.Turn.{by-fault}
+use Rattle.rules.proofs.Turn.{no-breach, by-fault}
 use Rattle.rules.proofs.WellFormedPlaces.{placed-sound}
 use Rattle.rules.proofs.WellFormedFacts.{Facts}
 use Rattle.rules.proofs.WellFormedShape.{Shape, fails, shape, Naming, keeps, adds, offers, resets}
@@ -64,10 +64,12 @@ module _ {limit : ℕ} {p : Program} {s : State} (ok : Accepted p) (f : Facts li
 
   -- what its step does has a shape, a fault too
   pub step-shape : i < s .activities → ended s i ≡ false → Shape p s i (act s i) (here p (top (act s i)) .command) (effect p s i)
-  unfolding fault at
+  unfolding breach at
   step-shape l u =
       by-fault p s i (Shape p s i (act s i) (here p (top (act s i)) .command))
-      (shape p s i (act s i) u (f .spawned i l .bounds) (here p (top (act s i)) .command) (here p (top (act s i)) .inner) (f .spawned i l .barrier) (at-sound l u .ranged))
+      (λ e.
+      shape p s i (act s i) u (f .spawned i l .bounds) (here p (top (act s i)) .command) (here p (top (act s i)) .inner) (f .spawned i l .barrier) (at-sound l u .ranged)
+      (no-breach p s i e))
       (λ e. fails _ refl)
 
 -- COUNTS

@@ -7,7 +7,7 @@ use Rattle.program.specs.Bodies.{Program, programOf}
 use Rattle.program.specs.Count.{workOf, activitiesOf}
 use Rattle.program.specs.Same.{sameBool, sameList, sameLists}
 use Rattle.rules.specs.Search.{countBelow}
-use Rattle.rules.specs.declared.state.Fault.the-variants.{F1, F2, F3, F4, F5, F6, F7}
+use Rattle.rules.specs.declared.state.Fault.the-variants.{F1, F2, F3, F4, F5, F6, F7, F8}
 use Rattle.rules.specs.declared.state.Registration.the-variants.{Free, Live, Quiesced}
 use Rattle.rules.specs.declared.state.Operator.the-variants.{Sum, Minimum, Maximum}
 use Rattle.rules.specs.State.{faultNumber, faultOf, operatorNumber, operatorOf, registrationNumber, answerNumber, ended}
@@ -68,8 +68,8 @@ allHold (c ∷ cs) = let r = allHold cs in holdsFor c && r
 -- The numbers of the enums: of each fault, operator and registration, and there and back for those that have both.
 unfoldable pub numbered : Bool
 numbered =
-    sameList (map faultNumber (F1 ∷ F2 ∷ F3 ∷ F4 ∷ F5 ∷ F6 ∷ F7 ∷ [])) (1 ∷ 2 ∷ 3 ∷ 4 ∷ 5 ∷ 6 ∷ 7 ∷ [])
-    && (sameList (map (λ n. faultNumber (faultOf n)) (1 ∷ 2 ∷ 3 ∷ 4 ∷ 5 ∷ 6 ∷ 7 ∷ [])) (1 ∷ 2 ∷ 3 ∷ 4 ∷ 5 ∷ 6 ∷ 7 ∷ [])
+    sameList (map faultNumber (F1 ∷ F2 ∷ F3 ∷ F4 ∷ F5 ∷ F6 ∷ F7 ∷ F8 ∷ [])) (1 ∷ 2 ∷ 3 ∷ 4 ∷ 5 ∷ 6 ∷ 7 ∷ 8 ∷ [])
+    && (sameList (map (λ n. faultNumber (faultOf n)) (1 ∷ 2 ∷ 3 ∷ 4 ∷ 5 ∷ 6 ∷ 7 ∷ 8 ∷ [])) (1 ∷ 2 ∷ 3 ∷ 4 ∷ 5 ∷ 6 ∷ 7 ∷ 8 ∷ [])
     && (sameList (map operatorNumber (Sum ∷ Minimum ∷ Maximum ∷ [])) (0 ∷ 1 ∷ 2 ∷ [])
     && (sameList (map (λ o. operatorNumber (operatorOf o)) (0 ∷ 1 ∷ 2 ∷ [])) (0 ∷ 1 ∷ 2 ∷ [])
     && sameList (map registrationNumber (Free ∷ Live ∷ Quiesced ∷ [])) (0 ∷ 1 ∷ 2 ∷ []))))
@@ -370,7 +370,7 @@ own =
       order = 0 ∷ 0 ∷ [];
       answers = 0 ∷ 105 ∷ [];
     }
-    -- "A faulted activity counts as ended.": READ, and the END of a FINISH body, do not wait for a faulted child,
+    -- "A faulted activity counts as ended.": READ, and the END of a FINISH body, which passes the fault on, do not wait for a faulted child,
     ∷ record {
       table = 0x02 ∷ 0x08 ∷ 0x00 ∷ 0x00 ∷ 0x05 ∷ 0x01 ∷ 0x00 ∷ 0x0A ∷ 0x00 ∷ 0x00 ∷ 0x04 ∷ 0x00 ∷ 0x00 ∷ [];
       order = 0 ∷ 0 ∷ 1 ∷ 0 ∷ [];
@@ -379,7 +379,7 @@ own =
     ∷ record {
       table = 0x03 ∷ 0x06 ∷ 0x01 ∷ 0x00 ∷ 0x05 ∷ 0x02 ∷ 0x00 ∷ 0x00 ∷ 0x04 ∷ 0x00 ∷ 0x00 ∷ [];
       order = 0 ∷ 0 ∷ 1 ∷ 0 ∷ [];
-      answers = 0 ∷ 0 ∷ 101 ∷ 0 ∷ [];
+      answers = 0 ∷ 0 ∷ 101 ∷ 108 ∷ [];
     }
     -- but for its child.
     ∷ record {

@@ -74,10 +74,10 @@ allSo (c ∷ cs) = let r = allSo cs in answersSo c && r
 abbrev unread : List ℕ → State → ℕ → ℕ → Handed
 unread table s i number = record { table = table; state = s; activity = i; answer = Refused number; after = s; number = number; set = 0 }
 
-abbrev refused : List ℕ → State → ℕ → ℕ → ℕ → Handed
+abbrev pub refused : List ℕ → State → ℕ → ℕ → ℕ → Handed
 refused table s i number set = record { table = table; state = s; activity = i; answer = Refused number; after = s; number = 0; set = set }
 
-abbrev accepted : List ℕ → State → ℕ → ℕ → Answer → State → Handed
+abbrev pub accepted : List ℕ → State → ℕ → ℕ → Answer → State → Handed
 accepted table s i set answer after = record { table = table; state = s; activity = i; answer = answer; after = after; number = 0; set = set }
 
 abbrev pub same : Activity → Activity

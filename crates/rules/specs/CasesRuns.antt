@@ -42,19 +42,19 @@ allGo [] = true
 allGo (c ∷ cs) = let r = allGo cs in goesSo c && r
 
 -- The answers.
-abbrev running : Answer
+abbrev pub running : Answer
 running = Accepted Running
 
-abbrev atBarrier : Answer
+abbrev pub atBarrier : Answer
 atBarrier = Accepted AtBarrier
 
-abbrev ended : Answer
+abbrev pub ended : Answer
 ended = Accepted Ended
 
-abbrev faulted : Fault → Answer
+abbrev pub faulted : Fault → Answer
 faulted f = Accepted (Faulted f)
 
-abbrev waits : Answer
+abbrev pub waits : Answer
 waits = Refused 16
 
 abbrev free : ℕ → List Hold

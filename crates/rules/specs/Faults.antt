@@ -1,17 +1,19 @@
--- Faults: the number of the first that a command meets, 0 for none.
+-- Faults: the number of the first that a command breaches, 0 for none; and the one that a finish passes on.
 use Prim.Native.Nat.{ℕ, _-_, _/_, _%_, _^_}
 use mathlib.Core.Bool.{Bool, cond, _&&_, not}
 use lib.Dec.{ltb, eqb}
 use Rattle.program.specs.declared.command.Command.{Command}
 use Rattle.program.specs.declared.command.Command.the-variants.{End, Next, Clock, Resume, Drop, Async, Finish, Repeat, Acc, Offer, Read, Reset, Put, Fetch, Store, Add, Atom}
+use Rattle.program.specs.Command.{isEnd}
 use Rattle.program.specs.Bodies.{Program}
 use Rattle.rules.specs.declared.state.Fault.the-variants.{F1, F2, F3, F4, F5, F6, F7}
 use Rattle.rules.specs.declared.state.Activity.{Activity}
 use Rattle.rules.specs.declared.state.Accumulator.{Accumulator}
+use Rattle.rules.specs.declared.state.State.{State}
 use Rattle.rules.specs.Search.{someBelow}
-use Rattle.rules.specs.State.{faultNumber, hold, bound}
+use Rattle.rules.specs.State.{faultNumber, act, top, hold, bound, isFaulted}
 use Rattle.rules.specs.Clocks.{isLive, holds, holdsSome}
-use Rattle.rules.specs.Tree.{inOwnFinish}
+use Rattle.rules.specs.Tree.{inOwnFinish, inFinishBody, inside}
 
 -- What a command may read of the rest of the state: the numbers that a new clock and a new accumulator get, the number of the next activity, the
 -- accumulators and the cells.
@@ -68,3 +70,12 @@ faultFor p e i a (Fetch d) = 0
 faultFor p e i a (Store d) = 0
 faultFor p e i a (Add d) = 0
 faultFor p e i a (Atom k) = 0
+
+-- "an activity inside has faulted"
+unfoldable pub faultedInside : State → ℕ → ℕ → ℕ → Bool
+faultedInside s i first x = inside s i first x && isFaulted (act s x .status)
+
+-- "When an END of a FINISH body may go on and an activity inside has faulted, the owner now faults with F8": activity i, which is a, at a command, where it
+-- may go on.
+unfoldable pub spoilt : Program → State → ℕ → Activity → Command → Bool
+spoilt p s i a c = isEnd c && (inFinishBody p a && someBelow (s .activities) (faultedInside s i (top a .first)))

@@ -18,3 +18,4 @@ pub mod CasesRuns
 pub mod CasesStates
 pub mod CasesCalls
 pub mod CasesAwaited
+pub mod CasesPassedOn

@@ -4,7 +4,7 @@ use mathlib.Core.List.{List, [], _∷_}
 use mathlib.Core.Bool.{Bool, true, false}
 use lib.ListN.{getD, replicate}
 use Rattle.rules.specs.declared.state.Fault.{Fault}
-use Rattle.rules.specs.declared.state.Fault.the-variants.{F1, F2, F3, F4, F5, F6, F7}
+use Rattle.rules.specs.declared.state.Fault.the-variants.{F1, F2, F3, F4, F5, F6, F7, F8}
 use Rattle.rules.specs.declared.state.Status.{Status}
 use Rattle.rules.specs.declared.state.Status.the-variants.{Running, AtBarrier, Ended, Faulted}
 use Rattle.rules.specs.declared.state.Registration.{Registration}
@@ -30,10 +30,11 @@ faultNumber F4 = 4
 faultNumber F5 = 5
 faultNumber F6 = 6
 faultNumber F7 = 7
+faultNumber F8 = 8
 
 -- The fault of a number from 1 on.
 abbrev pub faultOf : ℕ → Fault
-faultOf n = getD (F1 ∷ F2 ∷ F3 ∷ F4 ∷ F5 ∷ F6 ∷ F7 ∷ []) (n - 1) F1
+faultOf n = getD (F1 ∷ F2 ∷ F3 ∷ F4 ∷ F5 ∷ F6 ∷ F7 ∷ F8 ∷ []) (n - 1) F1
 
 -- "0 not held, 1 live, 2 quiesced"
 abbrev pub registrationNumber : Registration → ℕ
@@ -125,6 +126,12 @@ isEnded Running = false
 isEnded AtBarrier = false
 isEnded Ended = true
 isEnded (Faulted f) = true
+
+abbrev pub isFaulted : Status → Bool
+isFaulted Running = false
+isFaulted AtBarrier = false
+isFaulted Ended = false
+isFaulted (Faulted f) = true
 
 abbrev pub isAtBarrier : Status → Bool
 isAtBarrier Running = false

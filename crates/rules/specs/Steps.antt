@@ -7,6 +7,7 @@ use lib.Dec.{ltb, leb, eqb}
 use Rattle.program.specs.Bodies.{Located, Program, programOf}
 use Rattle.program.specs.Count.{workOf}
 use Rattle.program.specs.Table.{workLimit, numberOf}
+use Rattle.rules.specs.declared.state.Fault.the-variants.{F8}
 use Rattle.rules.specs.declared.state.Status.the-variants.{Running, Faulted}
 use Rattle.rules.specs.declared.state.Hold.{Hold}
 use Rattle.rules.specs.declared.state.State.{State}
@@ -15,10 +16,10 @@ use Rattle.rules.specs.declared.answer.Answer.the-variants.{Accepted, Re
 use Rattle.rules.specs.declared.answer.Stepped.{Stepped}
 use Rattle.rules.specs.declared.answer.Ready.{Ready}
 use Rattle.rules.specs.Search.{someBelow, bitsBelow, listFrom}
-use Rattle.rules.specs.State.{faultOf, registrationNumber, noActivity, zeroState, act, top, hold, ended, noFrames}
+use Rattle.rules.specs.State.{faultNumber, faultOf, registrationNumber, noActivity, zeroState, act, top, hold, ended, noFrames}
 use Rattle.rules.specs.Clocks.{isHeld}
 use Rattle.rules.specs.Tree.{here}
-use Rattle.rules.specs.Faults.{faultFor}
+use Rattle.rules.specs.Faults.{faultFor, spoilt}
 use Rattle.rules.specs.Waiting.{awaitedAt}
 use Rattle.rules.specs.Effects.{Spawned, nobody, one, Write, keep, make, offer, reset, Effect, withFrames, effectOf, failing, envOf, applied}
 use Rattle.rules.specs.WellFormed.{wellFormed}
@@ -38,19 +39,23 @@ base = record { work = workLimit; phase = 65535 }
 unfoldable pub at : Program → State → ℕ → Located
 at p s i = here p (top (act s i))
 
--- The fault that its command meets, 0 for none.
-unfoldable pub fault : Program → State → ℕ → ℕ
-fault p s i = faultFor p (envOf s) i (act s i) (at p s i .command)
+-- The rule that its command breaches, 0 for none.
+unfoldable pub breach : Program → State → ℕ → ℕ
+breach p s i = faultFor p (envOf s) i (act s i) (at p s i .command)
 
 -- How many activities it waits for. One that is unspawned or has ended waits for none; "Faults come before waiting."
 unfoldable pub awaited : Program → State → ℕ → ℕ
 awaited p s i =
     let n = awaitedAt p s i (act s i) (at p s i .command) in
-    cond (ltb i (s .activities) && (not (ended s i) && eqb (fault p s i) 0)) n 0
+    cond (ltb i (s .activities) && (not (ended s i) && eqb (breach p s i) 0)) n 0
 
 -- "16. The activity waits." The number "is 0 exactly for an activity that doesn't wait."
 unfoldable pub waits : Program → State → ℕ → Bool
 waits p s i = ltb 0 (awaited p s i)
+
+-- The fault of its step, 0 for none: the breach, or F8, which alone comes after waiting.
+unfoldable pub fault : Program → State → ℕ → ℕ
+fault p s i = let b = breach p s i in cond (spoilt p s i (act s i) (at p s i .command)) (faultNumber F8) b
 
 -- What its step does.
 unfoldable pub effect : Program → State → ℕ → Effect

@@ -1,6 +1,6 @@
 // The state, by value: wide fields first, so that nothing is padded where it can be helped.
 
-// A breach, by its number in document 01.
+// A breach, by its number in document 01; F8, a fault that a finish passes on, is document 02's.
 pub enum Fault {
     F1,
     F2,
@@ -9,6 +9,7 @@ pub enum Fault {
     F5,
     F6,
     F7,
+    F8,
 }
 
 // An activity's standing (document 01): running, at a meeting, ended, or faulted.

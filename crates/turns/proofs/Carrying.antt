@@ -7,6 +7,7 @@ use mathlib.Core.Bool.{false}
 use borrow.Author.Tests.{lt-ltb, le-ltb, eqb-true}
 use Rattle.program.specs.Bodies.{Program, programOf}
 use Rattle.program.specs.declared.command.Command.{Command}
+use Rattle.program.specs.declared.command.Command.the-variants.{End}
 use Rattle.program.proofs.Shape.{Ranged}
 use Rattle.program.proofs.ShapeRanges.{Within, within}
 use Rattle.rules.specs.declared.state.Activity.{Activity}
@@ -17,13 +18,15 @@ use Rattle.rules.specs.State.{ended, answerNumber}
 use Rattle.rules.specs.Waiting.{waitsFor}
 use Rattle.rules.specs.Steps.{base, stepped, awaited, waits, refusal, advance}
 use Rattle.rules.proofs.Awaited.{awaited-zero}
-use Rattle.rules.proofs.Turn.{turn-back}
+use Rattle.rules.proofs.Turn.{turn, turn-back}
 use Rattle.fields.specs.Lent.{Lent}
 use Rattle.moves.specs.Moves.{Turns, TurnsIn}
-use Rattle.moves.proofs.Standings.{standing}
+use Rattle.moves.proofs.Standings.{spawned, standing}
 use Rattle.moves.proofs.Ranges.{ranged-here, ranged-at}
-use Rattle.waits.specs.Waits.{Awaits}
-use Rattle.waits.proofs.Waitings.{awaits-idle}
+use Rattle.waits.specs.declared.inside.Inside.{Inside}
+use Rattle.waits.specs.Waits.{EndSees, Awaits}
+use Rattle.waits.proofs.Waitings.{spoilt-end, awaits-idle}
+use Rattle.bodies.specs.Pops.{Ends}
 use Rattle.turns.specs.declared.Reply.{Reply}
 use Rattle.turns.specs.Turns.{CarriesIn, Carries}
 
@@ -42,6 +45,10 @@ unfolding waits
 goes-on p s i m u e z =
     let q : awaited p s i ≤ 0 = omega arith in
     turn-back p s i (record { spawned = m; unended = u; moves = le-ltb 0 (awaited p s i) q })
+
+-- END where it may go on: one inside has faulted exactly where F8 is due.
+pub ends : {t starts b c : List ℕ} {i work n : ℕ} {r : Inside} → EndSees t starts b i r → Ends t starts (r .faulted) b c work i n → TurnsIn t starts End b c work i n
+ends {t} {i = i} e m = record { turns = λ k s l w. m .turns k s l w (spoilt-end e k s l (w .formed) (spawned w) (turn (programOf t) s i (w .goes) .unended)) }
 
 -- A COMMAND, BY HOW MANY IT WAITS FOR
 

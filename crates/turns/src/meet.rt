@@ -7,21 +7,22 @@ use barriers::next::next;
 use bodies::end::end;
 use values::read::read;
 use values::reset::reset;
-use waits::waiting::end_awaits;
+use waits::waiting::end_inside;
 use waits::waiting::next_awaits;
 use waits::waiting::own_awaits;
 
 pub fn meet_end(table: &[u8], starts: &[usize], work: u64, state: &mut [u8], i: usize) -> Reply
     ensures { λ r. ⌜ CarriesIn (now (table .entry)) (now (starts .entry)) End (now (state .entry)) (now (state .exit)) work i r ⌝ }
 {
-    let awaited = end_awaits(table, starts, state, i);
+    let seen = end_inside(table, starts, state, i);
+    let awaited = seen.unended;
     if awaited != 0 {
         return Reply {
             number: 16,
             awaited,
         };
     }
-    let number = end(table, starts, work, state, i);
+    let number = end(table, starts, work, state, i, seen.faulted);
     Reply { number, awaited: 0 }
 }
 

@@ -45,7 +45,7 @@ module _ {b : List ℕ} {p : Program} {s : State} {i work n o : ℕ} (l : Lent b
   -- A 17th accumulator.
   pub full : 16 ≤ s .accumulators → true ≡ exceeds base p s (effect p s i)
   unfolding faultFor exceedsAt overfull
-  full h = asks w (sym (fault-here w)) (rw (sym left, le-leb 16 (s .accumulators) h))
+  full h = asks w (sym (fault-here w refl)) (rw (sym left, le-leb 16 (s .accumulators) h))
 
   pub made : {b₁ b₂ b₃ b₄ : List ℕ} {m v u k r : ℕ} {f : Operator} {c : Accumulator} → n < 8 → m ≡ s .accumulators → m < 16 → k ≡ i % 256 → f ≡ operatorOf o → c ≡ newAccumulator k f
       → (m < 16 → Writes (λ (t : State). withAcc t m c) b b₁) → v ≡ m + 1 → Writes (λ (t : State). withAccumulators t v) b₁ b₂ → u ≡ m + 1
@@ -62,4 +62,4 @@ module _ {b : List ℕ} {p : Program} {s : State} {i work n o : ℕ} (l : Lent b
       let on = went w refl (span-is (Acc n o)) left a (ap (λ (a : Activity). a .frames) mine) (ap (λ (a : Activity). a .depth) mine) (same-steps s i m v c x) g in
       let fits : leb 16 (s .accumulators) ≡ false = lt-leb 16 (s .accumulators) (rw (sym e) room) in
       let end = rw (mine, with-with, applied-making s i m v c (past p x) e z, new, y, e) at on in
-      done w (fault-here w) (plain w left (rw fits) (λ o. omega arith)) end (g .number ∙ sym (calm w))
+      done w (fault-here w refl) (plain w left (rw fits) (λ o. omega arith)) end (g .number ∙ sym (calm w))

@@ -181,4 +181,4 @@ module _ {t starts : List ℕ} {s : State} {i work k : ℕ} (ok : Known t starts
       let q : f ≡ top (act s i) = frm (omega arith) .reads s l j ∙ rw e in
       let x = touchAll (cellIn s) (untouched (act s i)) (here (programOf t) (top (act s i)) .inner) in
       let y : Lent b₁ (touched s i x) = rw q at (g .touches ok (rw q on-atom) s (untouched (act s i)) (rw (touched-none s i) l) j) in
-      touch-done l w left x (fault-here w) refl (λ q. omega arith) refl (omega (arith, span-is (Atom k))) refl y go
+      touch-done l w left x (fault-here w refl) refl (λ q. omega arith) refl (omega (arith, span-is (Atom k))) refl y go

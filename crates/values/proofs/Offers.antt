@@ -29,7 +29,7 @@ module _ {b : List ℕ} {p : Program} {s : State} {i work n e : ℕ} (l : Lent b
 
   pub unbound-fault : e ≡ 0 → fault p s i ≡ 5
   unfolding faultFor
-  unbound-fault z = fault-here w ∙ rw (eq-eqb (bound (act s i) n) 0 (sym entry ∙ z))
+  unbound-fault z = fault-here w refl ∙ rw (eq-eqb (bound (act s i) n) 0 (sym entry ∙ z))
 
   pub offered : {b₁ b₂ : List ℕ} {c : Accumulator} {reg v r : ℕ} → (e ≡ 0 → ⊥) → false ≡ leb work (s .steps) → (e - 1 < 16 → Reads (λ (t : State). accumulator t (e - 1)) b c)
       → ReadsAct (λ (a : Activity). a .register) b i reg → v ≡ reduce (c .operator) (c .value) reg
@@ -41,6 +41,6 @@ module _ {b : List ℕ} {p : Program} {s : State} {i work n e : ℕ} (l : Lent b
       let h : e - 1 < 16 = omega arith in
       let x : c ≡ accumulator s (e - 1) = look h .reads s l in
       let y : reg ≡ act s i .register = own .reads s l (few w) in
-      let clear : fault p s i ≡ 0 = fault-here w ∙ rw (ne-eqb (bound (act s i) n) 0 (λ o. z (k ∙ o))) in
+      let clear : fault p s i ≡ 0 = fault-here w refl ∙ rw (ne-eqb (bound (act s i) n) 0 (λ o. z (k ∙ o))) in
       let t = went w refl (span-is (Offer n)) left (put h .writes s l) refl refl refl g in
       done w clear (plain w left refl (λ o. omega arith)) (rw (q, x, y, k) at t) (g .number ∙ sym (calm w))

@@ -65,11 +65,11 @@ module _ {b b₁ b₂ : List ℕ} {p : Program} {s : State} {i work n e k r : �
   was-read {c} w look put =
       let h = under small .reads s l (few w) in
       let m = bounds w n small in
-      let q : c ≡ accumulator s (e - 1) = look (omega (arith, bound-here l w small test (fault-here w) z under)) .reads s l in
+      let q : c ≡ accumulator s (e - 1) = look (omega (arith, bound-here l w small test (fault-here w refl) z under)) .reads s l in
       let x = withRegister (act s i) (c .value) in
       let o : act (withAct s i x) i ≡ x = act-with x l (few w) in
       let t = went w refl (span-is (Read n)) left (put .writes s l (few w)) (ap (λ (a : Activity). a .frames) o) (ap (λ (a : Activity). a .depth) o) (steps-with s i x) g in
-      done-alone w (clear l w small test (fault-here w) z) (plain w left refl (λ q. omega arith)) (past p x) (rw (q, h)) (rw (o, with-with) at t) (g .number ∙ sym (calm w))
+      done-alone w (clear l w small test (fault-here w refl) z) (plain w left refl (λ q. omega arith)) (past p x) (rw (q, h)) (rw (o, with-with) at t) (g .number ∙ sym (calm w))
 
   pub was-reset : {reg : ℕ} → Standing p s i work (Reset n) → ReadsAct (λ (a : Activity). a .register) b i reg
       → (e - 1 < 16 → Writes (λ (t : State). withAcc t (e - 1) (withValue (accumulator t (e - 1)) reg)) b b₁) → Turned p s i b₂ r
@@ -77,7 +77,7 @@ module _ {b b₁ b₂ : List ℕ} {p : Program} {s : State} {i work n e k r : �
   was-reset {reg} w own put =
       let h = under small .reads s l (few w) in
       let m = bounds w n small in
-      let j : e - 1 < 16 = omega (arith, bound-here l w small test (fault-here w) z under) in
+      let j : e - 1 < 16 = omega (arith, bound-here l w small test (fault-here w refl) z under) in
       let y : reg ≡ act s i .register = own .reads s l (few w) in
       let t = went w refl (span-is (Reset n)) left (put j .writes s l) refl refl refl g in
-      done w (clear l w small test (fault-here w) z) (plain w left refl (λ o. omega arith)) (rw (y, h) at t) (g .number ∙ sym (calm w))
+      done w (clear l w small test (fault-here w refl) z) (plain w left refl (λ o. omega arith)) (rw (y, h) at t) (g .number ∙ sym (calm w))

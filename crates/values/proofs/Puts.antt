@@ -27,4 +27,4 @@ put-done {p = p} {s = s} {i = i} {v = v} l w h f g =
     let x = withRegister (act s i) v in
     let e : act (withAct s i x) i ≡ x = act-with x l (few w) in
     let m = went w refl (span-is (Put v)) h (f .writes s l (few w)) (ap (λ (a : Activity). a .frames) e) (ap (λ (a : Activity). a .depth) e) (steps-with s i x) g in
-    done-alone w (fault-here w) (plain w h refl (λ q. omega arith)) (past p x) refl (rw (e, with-with) at m) (g .number ∙ sym (calm w))
+    done-alone w (fault-here w refl) (plain w h refl (λ q. omega arith)) (past p x) refl (rw (e, with-with) at m) (g .number ∙ sym (calm w))

@@ -133,12 +133,12 @@ module _ {b : List ℕ} {p : Program} {s : State} {i work : ℕ} {c : Command} (
 module _ {b b₁ b₂ : List ℕ} {p : Program} {s : State} {i work d r : ℕ} (l : Lent b s) where
   pub fetched : Standing p s i work (Fetch d) → false ≡ leb work (s .steps) → Touches (Fetch d) b b₁ i → GoesOn b₁ b₂ i 2 r → Turned p s i b₂ r
   unfolding faultFor effectOf overfull isEnd
-  fetched w left f g = touch-done l w left _ (fault-here w) refl (λ q. omega arith) refl (span-is (Fetch d)) refl (first-touch l w left f) g
+  fetched w left f g = touch-done l w left _ (fault-here w refl) refl (λ q. omega arith) refl (span-is (Fetch d)) refl (first-touch l w left f) g
 
   pub stored : Standing p s i work (Store d) → false ≡ leb work (s .steps) → Touches (Store d) b b₁ i → GoesOn b₁ b₂ i 2 r → Turned p s i b₂ r
   unfolding faultFor effectOf overfull isEnd
-  stored w left f g = touch-done l w left _ (fault-here w) refl (λ q. omega arith) refl (span-is (Store d)) refl (first-touch l w left f) g
+  stored w left f g = touch-done l w left _ (fault-here w refl) refl (λ q. omega arith) refl (span-is (Store d)) refl (first-touch l w left f) g
 
   pub added : Standing p s i work (Add d) → false ≡ leb work (s .steps) → Touches (Add d) b b₁ i → GoesOn b₁ b₂ i 2 r → Turned p s i b₂ r
   unfolding faultFor effectOf overfull isEnd
-  added w left f g = touch-done l w left _ (fault-here w) refl (λ q. omega arith) refl (span-is (Add d)) refl (first-touch l w left f) g
+  added w left f g = touch-done l w left _ (fault-here w refl) refl (λ q. omega arith) refl (span-is (Add d)) refl (first-touch l w left f) g

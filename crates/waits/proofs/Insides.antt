@@ -1,4 +1,4 @@
--- How many inside a finish have not ended, counted in lent bytes.
+-- How many inside a finish have not ended, and whether one has faulted, in lent bytes.
 use Prim.Native.Nat.{ℕ, zero, suc, _+_, _*_, _≤_, _<_}
 use native.Mathlib.Omega.{arith}
 use mathlib.Core.Path.{_≡_, refl, sym, ap, _∙_}
@@ -12,17 +12,18 @@ use Rattle.rules.specs.declared.state.Status.{Status}
 use Rattle.rules.specs.declared.state.Status.the-variants.{Running, AtBarrier, Ended, Faulted}
 use Rattle.rules.specs.declared.state.Activity.{Activity}
 use Rattle.rules.specs.declared.state.State.{State}
-use Rattle.rules.specs.State.{act, isEnded, ended}
+use Rattle.rules.specs.State.{act, isEnded, isFaulted, ended}
 use Rattle.rules.specs.Search.{chain}
 use Rattle.rules.specs.Tree.{spawnerOf, inside}
 use Rattle.rules.proofs.Tests.{decide, true-false, and-true, or-true}
 use Rattle.encoding.specs.Encode.{statusByte}
 use Rattle.places.specs.Rooted.{Rooted}
-use Rattle.places.proofs.Chains.{Passed, outside, none-above, joined, passed-outside, passed-ended, passed-unended, passed-none, inside-none, passed-all}
+use Rattle.places.proofs.Chains.{Passed, outside, none-unended, none-faulted, joined, passed-outside, passed-ended, passed-faulted, passed-unended, passed-none, all-counted, all-searched}
 use Rattle.fields.specs.Lent.{Lent, Gets, Reads, ReadsAct}
 use Rattle.fields.proofs.Stands.{own-number}
 use Rattle.fields.proofs.Own.{status-byte}
-use Rattle.waits.specs.Waits.{isUnended, Lowest, Inside}
+use Rattle.waits.specs.declared.inside.Inside.{Inside}
+use Rattle.waits.specs.Waits.{isUnended, Lowest, Sees}
 
 -- ENDED, BY THE BYTE
 
@@ -38,6 +39,20 @@ unended-there {x = x} {r = r} g e = record {
       λ s l j.
       let q : r ≡ statusByte (act s x .status) = own-number l j 4 1 g (omega arith) (omega arith) ∙ status-byte (act s x) in
       ap (λ (n : ℕ). ltb n 2) q ∙ status-below (act s x .status);
+}
+
+status-three : (t : Status) → eqb (statusByte t) 3 ≡ isFaulted t
+status-three Running = refl
+status-three AtBarrier = refl
+status-three Ended = refl
+status-three (Faulted f) = refl
+
+pub faulted-there : {b : List ℕ} {x at r : ℕ} → Gets 1 b at r → at ≡ 468 + 208 * x → ReadsAct (λ (a : Activity). isFaulted (a .status)) b x (eqb r 3)
+faulted-there {x = x} {r = r} g e = record {
+  reads =
+      λ s l j.
+      let q : r ≡ statusByte (act s x .status) = own-number l j 4 1 g (omega arith) (omega arith) ∙ status-byte (act s x) in
+      ap (λ (n : ℕ). eqb n 3) q ∙ status-three (act s x .status);
 }
 
 -- NOBODY WHO IS TOO LOW
@@ -74,49 +89,60 @@ none-low s r w first n b x m h = go (decide (ltb w x))
 
 -- THE PASS
 
--- Those below x are passed, and so many of them counted.
-pub record InsideTo (b : List ℕ) (w first : ℕ) (marks : List Bool) (count x : ℕ) : Type 0 where
+-- Those below x are passed, so many of them counted, and whether one has faulted.
+pub record InsideTo (b : List ℕ) (w first : ℕ) (marks : List Bool) (count : ℕ) (found : Bool) (x : ℕ) : Type 0 where
   pub few : count ≤ x
-  pub passed : (s : State) → Lent b s → Rooted s → Passed s w first marks count x
+  pub passed : (s : State) → Lent b s → Rooted s → Passed s w first marks count found x
 
 module _ {b : List ℕ} {w first made : ℕ} (made-of : Reads (λ (s : State). s .activities) b made) where
   -- more activities than there can be
-  pub too-many : {r : ℕ} → 64 < made → Inside b w first r
-  too-many h = record { sees = λ s l k. let e = made-of .reads s l in let f = k .few in absurd (let z : ⊥ = omega arith in z) }
+  pub too-many : {r : Inside} → 64 < made → Sees b w first r
+  too-many {r} h = record { counts = λ s l k. absurd (never s l k); finds = λ s l k. absurd (never s l k) }
+    where
+      never : (s : State) → Lent b s → Rooted s → ⊥
+      never s l k = let e = made-of .reads s l in let f = k .few in omega arith
+
+  -- where nobody is inside
+  nobody-there : {r : Inside} → (r .unended ≡ 0) × (r .faulted ≡ false) → ((s : State) → Lent b s → Rooted s → (x : ℕ) → x < s .activities → inside s w first x ≡ false) → Sees b w first r
+  nobody-there n h = record {
+    counts = λ s l k. n .0 ∙ none-unended s w first (s .activities) (h s l k);
+    finds = λ s l k. n .1 ∙ none-faulted s w first (s .activities) (h s l k);
+  }
 
   -- nobody is above the owner
-  pub nobody-above : made ≤ w → Inside b w first 0
-  nobody-above h = record { sees = λ s l k. let e = made-of .reads s l in sym (none-above s w first (omega arith)) }
+  pub nobody-above : {r : Inside} → (r .unended ≡ 0) × (r .faulted ≡ false) → made ≤ w → Sees b w first r
+  nobody-above n h = nobody-there n (λ s l k x m. let e = made-of .reads s l in outside s w first x (omega arith))
 
   module _ {n : ℕ} (q : Lowest w first n) where
     -- nobody reaches the lowest number
-    pub nobody-inside : made ≤ n → Inside b w first 0
-    nobody-inside h = record {
-      sees = λ s l k. let e = made-of .reads s l in inside-none s w first (λ x m. none-low s k w first n q x m (omega arith));
-    }
+    pub nobody-inside : {r : Inside} → (r .unended ≡ 0) × (r .faulted ≡ false) → made ≤ n → Sees b w first r
+    nobody-inside z h = nobody-there z (λ s l k x m. let e = made-of .reads s l in none-low s k w first n q x m (omega arith))
 
-    pub inside-yet : n < made → InsideTo b w first (replicate 64 false) 0 n
+    pub inside-yet : n < made → InsideTo b w first (replicate 64 false) 0 false n
     inside-yet h = record {
       few = omega arith;
       passed = λ s l k. let e = made-of .reads s l in let f = k .few in passed-none s w first n (λ x g. none-low s k w first n q x (omega arith) g) (omega arith);
     }
 
-  module _ {marks : List Bool} {count x : ℕ} (p : InsideTo b w first marks count x) where
-    pub inside-end : x ≤ made → made ≤ x → Inside b w first count
-    inside-end g h = record { sees = λ s l k. let e = made-of .reads s l in passed-all s w first (p .passed s l k) (omega arith) (omega arith) }
+  module _ {marks : List Bool} {count : ℕ} {found : Bool} {x : ℕ} (p : InsideTo b w first marks count found x) where
+    pub inside-end : x ≤ made → made ≤ x → Sees b w first (record { unended = count; faulted = found })
+    inside-end g h = record {
+      counts = λ s l k. let e = made-of .reads s l in all-counted s w first (p .passed s l k) (omega arith) (omega arith);
+      finds = λ s l k. let e = made-of .reads s l in all-searched s w first (p .passed s l k) (omega arith) (omega arith);
+    }
 
     module _ (above : w < x) (from : first ≤ x) (below : x < made) {y : ℕ} (spawner : ReadsAct (λ (a : Activity). a .spawner) b x y) where
       -- not lower than its child
-      pub not-lower : {r : ℕ} → x ≤ y → Inside b w first r
-      not-lower h = record {
-        sees =
-            λ s l k.
-            let e = made-of .reads s l in
-            let f = k .few in
-            let d = k .falls x (omega arith) (omega arith) in
-            let q = spawner .reads s l (omega arith) in
-            absurd (let z : ⊥ = omega arith in z);
-      }
+      pub not-lower : {r : Inside} → x ≤ y → Sees b w first r
+      not-lower {r} h = record { counts = λ s l k. absurd (never s l k); finds = λ s l k. absurd (never s l k) }
+        where
+          never : (s : State) → Lent b s → Rooted s → ⊥
+          never s l k =
+              let e = made-of .reads s l in
+              let f = k .few in
+              let d = k .falls x (omega arith) (omega arith) in
+              let q = spawner .reads s l (omega arith) in
+              omega arith
 
       module _ {r : Bool} (join : r ≡ eqb y w || getD marks y false) where
         there : (s : State) → Lent b s → x < s .activities
@@ -129,7 +155,7 @@ module _ {b : List ℕ} {w first made : ℕ} (made-of : Reads (λ (s : State). s
             let q : y ≡ spawnerOf s x = spawner .reads s l (omega arith) in
             joined s k w first (p .passed s l k) above m (join ∙ rw (q, le-leb first x from, and-right (eqb (spawnerOf s x) w)))
 
-        pub inside-out : r ≡ false → InsideTo b w first (set marks x r) count (x + 1)
+        pub inside-out : r ≡ false → InsideTo b w first (set marks x r) count found (x + 1)
         inside-out n = record {
           few = let f = p .few in omega arith;
           passed = λ s l k. passed-outside s k w first (p .passed s l k) above (there s l) (is-inside s l k) n;
@@ -139,14 +165,24 @@ module _ {b : List ℕ} {w first made : ℕ} (made-of : Reads (λ (s : State). s
           looks : (s : State) → Lent b s → Rooted s → u ≡ not (ended s x)
           looks s l k = let f = k .few in let m = there s l in looked .reads s l (omega arith)
 
-          pub inside-ended : u ≡ false → InsideTo b w first (set marks x r) count (x + 1)
-          inside-ended n = record {
-            few = let f = p .few in omega arith;
-            passed = λ s l k. passed-ended s k w first (p .passed s l k) above (there s l) (is-inside s l k) i (looks s l k) n;
-          }
-
-          pub inside-unended : u ≡ true → InsideTo b w first (set marks x r) (count + 1) (x + 1)
+          pub inside-unended : u ≡ true → InsideTo b w first (set marks x r) (count + 1) found (x + 1)
           inside-unended n = record {
             few = let f = p .few in omega arith;
             passed = λ s l k. passed-unended s k w first (p .passed s l k) above (there s l) (is-inside s l k) i (looks s l k) n;
           }
+
+          module _ (n : u ≡ false) {v : Bool} (found-out : ReadsAct (λ (a : Activity). isFaulted (a .status)) b x v) where
+            finds-out : (s : State) → Lent b s → Rooted s → v ≡ isFaulted (act s x .status)
+            finds-out s l k = let f = k .few in let m = there s l in found-out .reads s l (omega arith)
+
+            pub inside-ended : v ≡ false → InsideTo b w first (set marks x r) count found (x + 1)
+            inside-ended o = record {
+              few = let f = p .few in omega arith;
+              passed = λ s l k. passed-ended s k w first (p .passed s l k) above (there s l) (is-inside s l k) i (looks s l k) n (finds-out s l k) o;
+            }
+
+            pub inside-faulted : v ≡ true → InsideTo b w first (set marks x r) count true (x + 1)
+            inside-faulted o = record {
+              few = let f = p .few in omega arith;
+              passed = λ s l k. passed-faulted s k w first (p .passed s l k) above (there s l) (is-inside s l k) i (looks s l k) n (finds-out s l k) o;
+            }

@@ -1,4 +1,4 @@
--- How many are waited for, by the command: END of a FINISH body, who is at a meeting, READ and RESET.
+-- How many are waited for, by the command: END of a FINISH body, and whether F8 is due there; who is at a meeting; READ and RESET.
 use Prim.Native.Nat.{ℕ, _-_, _≤_, _<_}
 use native.Mathlib.Omega.{arith}
 use mathlib.Core.Path.{_≡_, refl, sym, ap, _∙_, subst}
@@ -8,6 +8,7 @@ use lib.Dec.{eqb}
 use borrow.Author.Tests.{lt-ltb, le-ltb, eq-eqb, ne-eqb}
 use types.Run.{OneOf, miss}
 use denote.Enum.Declared.{tagOf}
+use Rattle.program.specs.Command.{isEnd}
 use Rattle.program.specs.Bodies.{Program, programOf}
 use Rattle.program.specs.declared.command.Command.{Command}
 use Rattle.program.specs.declared.command.Command.the-variants.{End, Next, Clock, Resume, Drop, Async, Finish, Repeat, Acc, Offer, Read, Reset, Put, Fetch, Store, Add, Atom}
@@ -18,14 +19,14 @@ use Rattle.rules.specs.declared.state.Status.{Status}
 use Rattle.rules.specs.declared.state.Frame.{Frame}
 use Rattle.rules.specs.declared.state.Activity.{Activity}
 use Rattle.rules.specs.declared.state.State.{State}
-use Rattle.rules.specs.Search.{countBelow}
-use Rattle.rules.specs.State.{act, frame, top, bound, isAtBarrier}
+use Rattle.rules.specs.Search.{someBelow, countBelow}
+use Rattle.rules.specs.State.{act, frame, top, bound, isAtBarrier, ended}
 use Rattle.rules.specs.Tree.{here, isFinish, finishes, inFinishBody}
 use Rattle.rules.specs.WellFormed.{isPlaced, wellFormed}
-use Rattle.rules.specs.Faults.{readFault, faultFor}
+use Rattle.rules.specs.Faults.{readFault, faultFor, faultedInside, spoilt}
 use Rattle.rules.specs.Effects.{envOf}
 use Rattle.rules.specs.Waiting.{behindOf, unendedBelow, unendedInside, waitsFor, awaitedAt}
-use Rattle.rules.specs.Steps.{at, fault}
+use Rattle.rules.specs.Steps.{at, breach}
 use Rattle.rules.proofs.Counting.{count-none, guard-shut, guard-open}
 use Rattle.rules.proofs.Awaited.{awaited-live}
 use Rattle.rules.proofs.WellFormedFacts.{Facts, facts}
@@ -37,22 +38,29 @@ use Rattle.places.proofs.Roots.{placed, rooted}
 use Rattle.fields.specs.Lent.{Lent, ReadsAct}
 use Rattle.moves.proofs.Ranges.{ranged-at}
 use Rattle.moves.specs.Moves.{ReadFault}
-use Rattle.waits.specs.Waits.{Clocked, Gone, Inside, Behind, EndAwaits, NextAwaits, OwnAwaits, Awaits}
+use Rattle.waits.specs.declared.inside.Inside.{Inside}
+use Rattle.waits.specs.Waits.{Clocked, Gone, Sees, Behind, EndSees, NextAwaits, OwnAwaits, Awaits}
 
 -- END
 
+-- Where the body at the top is not one that a FINISH runs, nobody is waited for and no fault passed on.
+end-shut : {t starts b : List ℕ} {i : ℕ} {r : Inside} {q : Bool} → (r .unended ≡ 0) × (r .faulted ≡ false)
+    → ((s : State) → Lent b s → i < 64 → Placed t starts s (act s i) → q ≡ inFinishBody (programOf t) (act s i)) → q ≡ false → EndSees t starts b i r
+unfolding awaitedAt waitsFor spoilt isEnd
+end-shut {t} {i = i} n h e = record {
+  tells =
+      λ s l j k.
+      let a = act s i in
+      n .0 ∙ guard-shut (s .activities) (waitsFor (programOf t) s i a End) (unendedInside s i (top a .first)) (λ n. refl) (h s l j k) e;
+  spoils = λ s l j k. n .1 ∙ rw (sym (h s l j k) ∙ e);
+}
+
 module _ {t starts b : List ℕ} {i x d : ℕ} (depth : ReadsAct (λ (a : Activity). a .depth) b i x) (same : d ≡ x) where
   -- a stack of one body has none below it
-  pub end-alone : d ≤ 1 → EndAwaits t starts b i 0
-  unfolding awaitedAt waitsFor inFinishBody
-  end-alone h = record {
-    tells =
-        λ s l j k.
-        let a = act s i in
-        let e : d ≡ a .depth = same ∙ depth .reads s l j in
-        let z : false ≡ inFinishBody (programOf t) a = rw (le-ltb 1 (a .depth) (omega arith)) in
-        guard-shut (s .activities) (waitsFor (programOf t) s i a End) (unendedInside s i (top a .first)) (λ n. refl) z refl;
-  }
+  pub end-alone : {r : Inside} → (r .unended ≡ 0) × (r .faulted ≡ false) → d ≤ 1 → EndSees t starts b i r
+  unfolding inFinishBody
+  end-alone n h =
+      end-shut n (λ s l j k. let e : d ≡ act s i .depth = same ∙ depth .reads s l j in sym (rw (le-ltb 1 (act s i .depth) (omega arith)))) refl
 
   module _ {y : Frame} {q : Bool} (deep : 1 < d) (below : d - 2 < 16 → ReadsAct (λ (a : Activity). frame a (d - 2)) b i y)
       (runs : Known t starts → isPlaced (programOf t) y ≡ true → q ≡ isFinish (here (programOf t) y .command)) where
@@ -67,28 +75,31 @@ module _ {t starts b : List ℕ} {i x d : ℕ} (depth : ReadsAct (λ (a : Activi
         let on : isPlaced (programOf t) y ≡ true = rw f (k .stack .placed (a .depth - 2) (omega arith)) in
         rw (lt-ltb 1 (a .depth) (omega arith)) (runs (k .known) on ∙ ap (λ (z : Frame). isFinish (here (programOf t) z .command)) f)
 
-    pub end-elsewhere : q ≡ false → EndAwaits t starts b i 0
-    unfolding awaitedAt waitsFor
-    end-elsewhere n = record {
-      tells =
-          λ s l j k.
-          let a = act s i in
-          guard-shut (s .activities) (waitsFor (programOf t) s i a End) (unendedInside s i (top a .first)) (λ n. refl) (in-finish s l j k) n;
-    }
+    pub end-elsewhere : {r : Inside} → (r .unended ≡ 0) × (r .faulted ≡ false) → q ≡ false → EndSees t starts b i r
+    end-elsewhere n e = end-shut n in-finish e
 
-    pub end-inside : {z : Frame} {first r : ℕ} → q ≡ true → (d - 1 < 16 → ReadsAct (λ (a : Activity). frame a (d - 1)) b i z) → first ≡ z .first → Inside b i first r
-        → EndAwaits t starts b i r
-    unfolding awaitedAt waitsFor
-    end-inside {first = first} {r = r} n own from g = record {
-      tells =
-          λ s l j k.
+    module _ {z : Frame} {first : ℕ} (own : d - 1 < 16 → ReadsAct (λ (a : Activity). frame a (d - 1)) b i z) (from : first ≡ z .first) where
+      -- it began at its first number
+      begun : (s : State) → Lent b s → i < 64 → Placed t starts s (act s i) → first ≡ top (act s i) .first
+      begun s l j k =
           let a = act s i in
           let e : d ≡ a .depth = same ∙ depth .reads s l j in
           let few = k .stack .few in
-          let f : first ≡ top a .first = from ∙ ap (λ (u : Frame). u .first) (own (omega arith) .reads s l j ∙ ap (λ (m : ℕ). frame a (m - 1)) e) in
-          guard-open (s .activities) (waitsFor (programOf t) s i a End) (unendedInside s i (top a .first)) (λ n. refl) (in-finish s l j k) n
-          (subst (λ (m : ℕ). r ≡ countBelow (s .activities) (unendedInside s i m)) f (g .sees s l (k .rooted)));
-    }
+          from ∙ ap (λ (u : Frame). u .first) (own (omega arith) .reads s l j ∙ ap (λ (m : ℕ). frame a (m - 1)) e)
+
+      pub end-inside : {r : Inside} → q ≡ true → Sees b i first r → EndSees t starts b i r
+      unfolding awaitedAt waitsFor spoilt isEnd
+      end-inside {r} n g = record {
+        tells =
+            λ s l j k.
+            let a = act s i in
+            guard-open (s .activities) (waitsFor (programOf t) s i a End) (unendedInside s i (top a .first)) (λ n. refl) (in-finish s l j k) n
+            (subst (λ (m : ℕ). r .unended ≡ countBelow (s .activities) (unendedInside s i m)) (begun s l j k) (g .counts s l (k .rooted)));
+        spoils =
+            λ s l j k.
+            subst (λ (m : ℕ). r .faulted ≡ someBelow (s .activities) (faultedInside s i m)) (begun s l j k) (g .finds s l (k .rooted))
+            ∙ rw (sym (in-finish s l j k) ∙ n);
+      }
 
 -- NEXT
 
@@ -114,9 +125,9 @@ module _ {b : List ℕ} {i n f : ℕ} (meets : ReadFault b i n f) where
   pub own-faulty : (f ≡ 0 → ⊥) → OwnAwaits n b i 0
   own-faulty h = record { tells = λ s l j m k. rw (ne-eqb (readFault (envOf s) i (act s i) n) 0 (λ z. h (meets .reads s l j m ∙ z))) }
 
-  pub own-inside : {r : ℕ} → f ≡ 0 → Inside b i 0 r → OwnAwaits n b i r
+  pub own-inside : {r : Inside} → f ≡ 0 → Sees b i 0 r → OwnAwaits n b i (r .unended)
   own-inside h g = record {
-    tells = λ s l j m k. rw (eq-eqb (readFault (envOf s) i (act s i) n) 0 (sym (meets .reads s l j m) ∙ h)) (g .sees s l k ∙ sym (unended-below s i));
+    tells = λ s l j m k. rw (eq-eqb (readFault (envOf s) i (act s i) n) 0 (sym (meets .reads s l j m) ∙ h)) (g .counts s l k ∙ sym (unended-below s i));
   }
 
 -- THE COMMAND
@@ -175,22 +186,27 @@ gone-of {t} {s = s} f =
     let x = facts 65535 (programOf t) s (f .formed) in
     record { few = x .acts64; free = λ y k h e l. x .spawned y h .gone e .1 k l }
 
+-- Whether F8 is due.
+pub spoilt-end : {t starts b : List ℕ} {i : ℕ} {r : Inside} → EndSees t starts b i r → Known t starts → (s : State) → Lent b s → wellFormed 65535 (programOf t) s ≡ true → i < s .activities → ended s i ≡ false
+    → r .faulted ≡ spoilt (programOf t) s i (act s i) End
+spoilt-end g k s l w m u = let f = fit-of k w in g .spoils s l (few-of f m) (placed f m u)
+
 module _ {t starts b : List ℕ} {i : ℕ} {c : Command} where
-  pub awaits-end : {r : ℕ} → c ≡ End → EndAwaits t starts b i r → Awaits t starts c b i r
-  unfolding fault faultFor
+  pub awaits-end : {r : Inside} → c ≡ End → EndSees t starts b i r → Awaits t starts c b i (r .unended)
+  unfolding breach faultFor
   awaits-end e g = record {
     tells = λ k s l w m u a. let f = fit-of k w in rw (awaited-live (programOf t) s i m u, a ∙ e) (g .tells s l (few-of f m) (placed f m u));
   }
 
   pub awaits-next : {r : ℕ} → c ≡ Next → NextAwaits b i r → Awaits t starts c b i r
-  unfolding fault faultFor
+  unfolding breach faultFor
   awaits-next e g = record {
     tells = λ k s l w m u a. let f = fit-of k w in rw (awaited-live (programOf t) s i m u, a ∙ e) (g .tells (programOf t) s l (few-of f m) (clocked-of f m) (gone-of f));
   }
 
   module _ {n y r : ℕ} (same : y ≡ n) (g : y < 8 → OwnAwaits y b i r) where
     pub awaits-read : c ≡ Read n → Awaits t starts c b i r
-    unfolding fault faultFor awaitedAt waitsFor
+    unfolding breach faultFor awaitedAt waitsFor
     awaits-read e = record {
       tells =
           λ k s l w m u a.
@@ -199,7 +215,7 @@ module _ {t starts b : List ℕ} {i : ℕ} {c : Command} where
     }
 
     pub awaits-reset : c ≡ Reset n → Awaits t starts c b i r
-    unfolding fault faultFor awaitedAt waitsFor
+    unfolding breach faultFor awaitedAt waitsFor
     awaits-reset e = record {
       tells =
           λ k s l w m u a.
@@ -219,7 +235,7 @@ awaits-idle {t} {i = i} c h = record {
       λ k s l w m u a.
       let p = programOf t in
       let q : countBelow (s .activities) (waitsFor p s i (act s i) c) ≡ 0 = count-none (s .activities) (waitsFor p s i (act s i) c) (λ x g. h p s (act s i) x) in
-      rw (awaited-live p s i m u, a, q) (cond-same (eqb (fault p s i) 0));
+      rw (awaited-live p s i m u, a, q) (cond-same (eqb (breach p s i) 0));
 }
 
 pub awaits-other : {t starts b : List ℕ} {i : ℕ} (c : Command) → OneOf others (tagOf the-type c) → Awaits t starts c b i 0

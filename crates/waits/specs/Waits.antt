@@ -15,7 +15,7 @@ use Rattle.rules.specs.Search.{someBelow, countBelow}
 use Rattle.rules.specs.State.{registrationNumber, act, hold, bound, isEnded, ended}
 use Rattle.rules.specs.Clocks.{isHeld, holds}
 use Rattle.rules.specs.WellFormed.{wellFormed}
-use Rattle.rules.specs.Faults.{readFault}
+use Rattle.rules.specs.Faults.{readFault, faultedInside, spoilt}
 use Rattle.rules.specs.Effects.{envOf}
 use Rattle.rules.specs.Waiting.{behindOf, unendedBelow, unendedInside, awaitedAt}
 use Rattle.rules.specs.Steps.{at, awaited}
@@ -23,6 +23,7 @@ use Rattle.encoding.specs.Encode.{encodeHold}
 use Rattle.places.specs.Known.{Known}
 use Rattle.places.specs.Rooted.{Rooted, Placed}
 use Rattle.fields.specs.Lent.{Lent}
+use Rattle.waits.specs.declared.inside.Inside.{Inside}
 
 -- PASSING
 
@@ -73,15 +74,17 @@ pub record Lowest (w first r : ℕ) : Type 0 where
   pub from : first ≤ r
   pub least : (x : ℕ) → w < x → x < r → x < first
 
--- So many inside the finish of activity w that began at number `first` have not ended.
-pub record Inside (b : List ℕ) (w first r : ℕ) : Type 0 where
-  pub sees : (s : State) → Lent b s → Rooted s → r ≡ countBelow (s .activities) (unendedInside s w first)
+-- Of those inside the finish of activity w that began at number `first`: so many have not ended, and whether one has faulted.
+pub record Sees (b : List ℕ) (w first : ℕ) (r : Inside) : Type 0 where
+  pub counts : (s : State) → Lent b s → Rooted s → r .unended ≡ countBelow (s .activities) (unendedInside s w first)
+  pub finds : (s : State) → Lent b s → Rooted s → r .faulted ≡ someBelow (s .activities) (faultedInside s w first)
 
 -- AT A COMMAND
 
--- Activity i, which has a stack, waits at END for so many.
-pub record EndAwaits (t starts b : List ℕ) (i r : ℕ) : Type 0 where
-  pub tells : (s : State) → Lent b s → i < 64 → Placed t starts s (act s i) → r ≡ awaitedAt (programOf t) s i (act s i) End
+-- Activity i, which has a stack, waits at END for so many, and whether F8 is due where it may go on.
+pub record EndSees (t starts b : List ℕ) (i : ℕ) (r : Inside) : Type 0 where
+  pub tells : (s : State) → Lent b s → i < 64 → Placed t starts s (act s i) → r .unended ≡ awaitedAt (programOf t) s i (act s i) End
+  pub spoils : (s : State) → Lent b s → i < 64 → Placed t starts s (act s i) → r .faulted ≡ spoilt (programOf t) s i (act s i) End
 
 -- It waits at NEXT for so many.
 pub record NextAwaits (b : List ℕ) (i r : ℕ) : Type 0 where

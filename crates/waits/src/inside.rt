@@ -1,13 +1,31 @@
-// END of a FINISH body waits for those inside it who have not ended; READ and RESET wait for the descendants, with `first` 0.
+// Those inside a finish: END of its body waits for who has not ended, and passes a fault on. READ and RESET wait for the descendants, with `first` 0.
 ghost use Prim.Native.Nat.{_<_};
 ghost use mathlib.Core.Path.{_≡_};
-ghost use mathlib.Core.Bool.{_||_};
+ghost use mathlib.Core.Bool.{false, _||_};
 ghost use lib.Dec.{eqb};
 ghost use Rattle.fields.specs.Lent.{ReadsAct};
-ghost use Rattle.waits.specs.Waits.{isUnended, Lowest, Inside};
+ghost use Rattle.rules.specs.State.{isFaulted};
+ghost use Rattle.rules.specs.declared.state.Activity.{Activity};
+ghost use Rattle.waits.specs.Waits.{isUnended, Lowest, Sees};
 use fields::activities::spawner_at;
 use fields::bytes::get1;
 use fields::counts::activities_of;
+
+// How many inside have not ended, and whether one has faulted.
+pub struct Inside {
+    pub unended: u8,
+    pub faulted: bool,
+}
+
+// Nobody is inside.
+pub(crate) fn nobody() -> Inside
+    ensures { λ r. ⌜ (r .unended ≡ 0) × (r .faulted ≡ false) ⌝ }
+{
+    Inside {
+        unended: 0,
+        faulted: false,
+    }
+}
 
 // The lowest number that someone inside can have: above the owner, and not below `first`.
 fn lowest(w: usize, first: usize) -> usize
@@ -40,38 +58,51 @@ pub(crate) fn is_unended(state: &[u8], x: usize) -> bool
     get1(state, 468 + 208 * x) < 2
 }
 
-// How many inside have not ended, in one pass upwards: an activity's spawner is lower than it.
-pub fn count_inside(state: &[u8], w: usize, first: usize) -> u8
-    ensures { λ r. ⌜ Inside (now (state .entry)) w first r ⌝ }
+// Whether an activity has faulted.
+fn is_faulted(state: &[u8], x: usize) -> bool
+    ensures { λ r. ⌜ ReadsAct (λ (a : Activity). isFaulted (a .status)) (now (state .entry)) x r ⌝ }
+{
+    if 64 <= x {
+        return false;
+    }
+    get1(state, 468 + 208 * x) == 3
+}
+
+// Those inside, in one pass upwards: an activity's spawner is lower than it.
+pub fn inside_of(state: &[u8], w: usize, first: usize) -> Inside
+    ensures { λ r. ⌜ Sees (now (state .entry)) w first r ⌝ }
 {
     let made = activities_of(state) as usize;
     if 64 < made {
-        return 0;
+        return nobody();
     }
     if made <= w {
-        return 0;
+        return nobody();
     }
     let start = lowest(w, first);
     if made <= start {
-        return 0;
+        return nobody();
     }
     let mut inside = [false; 64];
-    let mut count: u8 = 0;
+    let mut unended: u8 = 0;
+    let mut faulted = false;
     let mut x = start;
     while x < made {
         let at = x;
         x += 1;
         let spawner = spawner_at(state, at) as usize;
         if at <= spawner {
-            return 0;
+            return nobody();
         }
         let within = joins(spawner, w, inside[spawner]);
         inside[at] = within;
         if within {
             if is_unended(state, at) {
-                count += 1;
+                unended += 1;
+            } else if is_faulted(state, at) {
+                faulted = true;
             }
         }
     }
-    count
+    Inside { unended, faulted }
 }

@@ -1,8 +1,10 @@
 // How many activities one waits for at the command that it stands on. Faults come before waiting.
 ghost use Prim.Native.Nat.{_<_};
-ghost use Rattle.waits.specs.Waits.{EndAwaits, NextAwaits, OwnAwaits, Awaits};
+ghost use Rattle.waits.specs.Waits.{EndSees, NextAwaits, OwnAwaits, Awaits};
 use super::behind::count_behind;
-use super::inside::count_inside;
+use super::inside::Inside;
+use super::inside::inside_of;
+use super::inside::nobody;
 use fields::activities::depth_at;
 use fields::activities::status_at;
 use fields::frames::frame_at;
@@ -12,20 +14,20 @@ use places::is_finish;
 use program::command::Command;
 use program::command::wide;
 
-// END of a FINISH body waits for those inside who have not ended.
-pub fn end_awaits(table: &[u8], starts: &[usize], state: &[u8], i: usize) -> u8
-    ensures { λ r. ⌜ EndAwaits (now (table .entry)) (now (starts .entry)) (now (state .entry)) i r ⌝ }
+// Those inside the FINISH body that ends here; nobody at another END.
+pub fn end_inside(table: &[u8], starts: &[usize], state: &[u8], i: usize) -> Inside
+    ensures { λ r. ⌜ EndSees (now (table .entry)) (now (starts .entry)) (now (state .entry)) i r ⌝ }
 {
     let depth = wide(depth_at(state, i));
     if depth <= 1 {
-        return 0;
+        return nobody();
     }
     let below = frame_at(state, i, depth - 2);
     if is_finish(table, starts, below) {
         let f = frame_at(state, i, depth - 1);
-        return count_inside(state, i, wide(f.first));
+        return inside_of(state, i, wide(f.first));
     }
-    0
+    nobody()
 }
 
 // Passing waits for those who are behind on an own clock.
@@ -44,7 +46,8 @@ pub fn own_awaits(state: &[u8], i: usize, n: usize) -> u8
     ensures { λ r. ⌜ (n < 8 → OwnAwaits n (now (state .entry)) i r) ⌝ }
 {
     if read_fault(state, i, n) == 0 {
-        return count_inside(state, i, 0);
+        let below = inside_of(state, i, 0);
+        return below.unended;
     }
     0
 }
@@ -54,7 +57,10 @@ pub fn awaited_at(table: &[u8], starts: &[usize], state: &[u8], i: usize, comman
     ensures { λ r. ⌜ Awaits (now (table .entry)) (now (starts .entry)) command (now (state .entry)) i r ⌝ }
 {
     match command {
-        Command::End => end_awaits(table, starts, state, i),
+        Command::End => {
+            let seen = end_inside(table, starts, state, i);
+            seen.unended
+        }
         Command::Next => next_awaits(state, i),
         Command::Read(n) => own_awaits(state, i, wide(n)),
         Command::Reset(n) => own_awaits(state, i, wide(n)),

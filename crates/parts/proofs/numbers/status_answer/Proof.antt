@@ -6,20 +6,14 @@ use mir.Syntax.{w8}
 use native.Mathlib.Omega.{arith}
 use borrow.Author.Needs.{needs}
 use Rattle.rules.specs.declared.state.Fault.{Fault}
-use Rattle.rules.specs.declared.state.Fault.the-variants.{F1, F2, F3, F4, F5, F6, F7}
 use Rattle.rules.specs.State.{faultNumber}
+use Rattle.rules.proofs.FaultNumbers.{fault-range}
 use Rattle.parts.proofs.numbers.status_answer.Statement.{statement}
 use Rattle.parts.proofs.numbers.status_answer.Tie as tie
 
 -- A fault's answer is a byte.
 fits : (f : Fault) {r : ℕ} → r ≡ faultNumber f → Fits w8 (100 + r)
-fits F1 e = record { fits = omega arith }
-fits F2 e = record { fits = omega arith }
-fits F3 e = record { fits = omega arith }
-fits F4 e = record { fits = omega arith }
-fits F5 e = record { fits = omega arith }
-fits F6 e = record { fits = omega arith }
-fits F7 e = record { fits = omega arith }
+fits f e = let h = fault-range f .1 in record { fits = omega arith }
 
 add-result : tie.Need-add-result
 add-result c = fits (c .before .before .status .given .0 .0) (c .fault-number .ensures)

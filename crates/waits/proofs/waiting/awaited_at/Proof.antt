@@ -5,7 +5,7 @@ use Rattle.waits.proofs.waiting.awaited_at.Statement.{statement}
 use Rattle.waits.proofs.waiting.awaited_at.Tie as tie
 
 returns : tie.Need-returns
-returns c = awaits-end (c .before .enum-told .given .1) (c .end-awaits .ensures)
+returns c = awaits-end (c .before .enum-told .given .1) (c .end-inside .ensures)
 
 returns-2 : tie.Need-returns-2
 returns-2 c = awaits-next (c .before .enum-told2 .given .1) (c .next-awaits .ensures)
@@ -22,7 +22,7 @@ returns-5 c = awaits-other (c .before .before .before .before .args .command) (c
 pub awaited-at-spec : {M : Type 1} → statement M
 awaited-at-spec =
     tie.close
-    (tie.spec (λ enum-told. search needs) (λ end-awaits-requires κs. search needs) (λ enum-told-2. search needs) (λ next-awaits-requires κs. search needs)
-    (λ enum-known-command. search needs) (λ wide-requires κs. search needs) (λ own-awaits-requires κs. search needs)
-    (λ enum-known-command-2. search needs) (λ wide-requires-2 κs. search needs) (λ own-awaits-requires-2 κs. search needs) returns returns-2 returns-3 returns-4
-    returns-5)
+    (tie.spec (λ enum-told. search needs) (λ end-inside-requires κs. search needs) (λ enum-told-2. search needs)
+    (λ next-awaits-requires κs. search needs) (λ enum-known-command. search needs) (λ wide-requires κs. search needs)
+    (λ own-awaits-requires κs. search needs) (λ enum-known-command-2. search needs) (λ wide-requires-2 κs. search needs)
+    (λ own-awaits-requires-2 κs. search needs) returns returns-2 returns-3 returns-4 returns-5)
