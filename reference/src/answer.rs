@@ -48,10 +48,12 @@ pub enum Fault {
     NotOwner = 6,
     /// READ or RESET while holding a clock.
     HoldsClock = 7,
+    /// END of a FINISH body when all inside have ended and one of them has faulted.
+    FaultInside = 8,
 }
 
 impl Fault {
-    pub const ALL: [Fault; 7] = [
+    pub const ALL: [Fault; 8] = [
         Fault::ClockNotHeld,
         Fault::ClockQuiesced,
         Fault::ClockInFinish,
@@ -59,9 +61,10 @@ impl Fault {
         Fault::NameUnbound,
         Fault::NotOwner,
         Fault::HoldsClock,
+        Fault::FaultInside,
     ];
 
-    /// The f of Ff, 1 to 7.
+    /// The f of Ff, 1 to 8.
     pub fn number(self) -> u8 {
         self as u8
     }

@@ -26,7 +26,9 @@ pub fn start() -> State {
 pub fn step(table: &Table, state: &mut State, activity: usize) -> Result<Outcome, Refusal> {
     let outcome = match prospect(table, state, activity)? {
         Prospect::Faults(fault) => Outcome::Faulted(fault),
-        Prospect::Awaits(0) => Outcome::Stepped,
+        Prospect::Awaits(0) => {
+            late_fault(table, state, activity).map_or(Outcome::Stepped, Outcome::Faulted)
+        }
         Prospect::Awaits(_) => return Err(Refusal::Waits),
     };
     let place = current(table, &state.acts[activity]);
@@ -82,12 +84,13 @@ pub fn registrations(state: &State) -> Sheet {
 
 /// What is before an unended activity.
 enum Prospect {
+    /// F1 to F7.
     Faults(Fault),
-    /// It waits for so many; with 0 its command can be done.
+    /// It waits for so many; with 0 its command is done or gives F8.
     Awaits(u8),
 }
 
-/// Numbers 14 and 15, or what is before the activity. Faults come before waiting.
+/// Numbers 14 and 15, or what is before the activity. F1 to F7 come before waiting.
 fn prospect(table: &Table, state: &State, activity: usize) -> Result<Prospect, Refusal> {
     let Some(own) = state.spawned().get(activity) else {
         return Err(Refusal::NotSpawned);
@@ -123,6 +126,7 @@ fn runner<'t>(table: &'t Table, activity: &Activity) -> Option<&'t Place> {
 
 // Faults
 
+/// F1 to F7.
 fn fault(table: &Table, state: &State, activity: usize, command: &Command) -> Option<Fault> {
     let own = &state.acts[activity];
     match *command {
@@ -184,6 +188,14 @@ fn owner_fault(state: &State, activity: usize, name: u8) -> Option<Fault> {
     }
 }
 
+/// F8, the one fault that comes after waiting: for an activity that waits for nobody.
+fn late_fault(table: &Table, state: &State, activity: usize) -> Option<Fault> {
+    let own = &state.acts[activity];
+    let ends_finish = current(table, own).command == Command::End && is_finish(runner(table, own));
+    (ends_finish && inside(state, activity).any(Activity::has_faulted))
+        .then_some(Fault::FaultInside)
+}
+
 // Waiting
 
 /// How many activities this one waits for at a command that does not fault.
@@ -191,8 +203,8 @@ fn awaited_at(table: &Table, state: &State, activity: usize, command: &Command) 
     let own = &state.acts[activity];
     match command {
         Command::Next if own.standing == Standing::Meeting => holders_behind(state, own),
-        Command::End if is_finish(runner(table, own)) => unended_inside(state, activity),
-        Command::Read(_) | Command::Reset(_) => unended_from(state, activity, 0),
+        Command::End if is_finish(runner(table, own)) => unended(inside(state, activity)),
+        Command::Read(_) | Command::Reset(_) => unended(below(state, activity, 0)),
         _ => 0,
     }
 }
@@ -216,26 +228,29 @@ fn is_behind(other: &Activity, own: &Hold) -> bool {
     })
 }
 
-/// How many activities inside the finish of the top body have not ended.
-fn unended_inside(state: &State, owner: usize) -> u8 {
-    let first = state.acts[owner].top().map_or(0, |frame| frame.first);
-    unended_from(state, owner, usize::from(first))
+fn unended<'s>(activities: impl Iterator<Item = &'s Activity>) -> u8 {
+    activities.filter(|activity| !activity.has_ended()).count() as u8
 }
 
-/// How many have not ended of the activity's children numbered `first` or above and of the
-/// descendants of these. Ended spawners still link their children to the activity.
-fn unended_from(state: &State, activity: usize, first: usize) -> u8 {
+/// The activities inside the finish of the top body, ended ones too.
+fn inside(state: &State, owner: usize) -> impl Iterator<Item = &Activity> {
+    let first = state.acts[owner].top().map_or(0, |frame| frame.first);
+    below(state, owner, usize::from(first))
+}
+
+/// The activity's children numbered `first` or above and the descendants of these. Ended spawners
+/// still link their children to the activity.
+fn below(state: &State, activity: usize, first: usize) -> impl Iterator<Item = &Activity> {
     let mut family = 0u64;
-    let mut unended = 0;
-    for (i, other) in state.spawned().iter().enumerate().skip(1) {
+    let numbered = state.spawned().iter().enumerate().skip(1);
+    let related = numbered.filter(move |(i, other)| {
         let spawner = usize::from(other.spawner);
-        let child = spawner == activity && i >= first;
-        if child || family >> spawner & 1 == 1 {
-            family |= 1 << i;
-            unended += u8::from(!other.has_ended());
-        }
-    }
-    unended
+        let child = spawner == activity && *i >= first;
+        let member = child || family >> spawner & 1 == 1;
+        family |= u64::from(member) << i;
+        member
+    });
+    related.map(|(_, other)| other)
 }
 
 // Limits

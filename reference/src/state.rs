@@ -74,6 +74,10 @@ impl Activity {
         matches!(self.standing, Standing::Ended | Standing::Faulted(_))
     }
 
+    pub fn has_faulted(&self) -> bool {
+        matches!(self.standing, Standing::Faulted(_))
+    }
+
     /// The bodies on the stack, the lowest first.
     pub fn stack(&self) -> &[Frame] {
         &self.frames[..usize::from(self.depth).min(MAX_DEPTH)]

@@ -85,7 +85,7 @@ fn bytes_that_encode_no_state() {
         (activity + 4, 3), // faulted without a fault
         (activity + 5, 1), // a fault without faulting
         (activity + 416 + 5, 0),
-        (activity + 416 + 5, 8),
+        (activity + 416 + 5, 9),
         (activity + 16 + 13, 3), // registration
         (activity + 16 + 10, 1), // phase 65,536
         (activity + 16 + 14, 1), // reserved

@@ -11,7 +11,7 @@ use reference::fit::{broken_clauses, is_fit};
 use reference::generate::{
     damage_state, limit_cases, list_of, order, random_table, room_of, strain_state, OrderKind, Rng,
 };
-use reference::state::{Activity, Registration, Standing, State};
+use reference::state::{Activity, Frame, Registration, State};
 use reference::table::{Command, Table};
 use reference::{build, calls, list, rules};
 
@@ -73,7 +73,7 @@ impl Tally {
         for number in 1..=18u8 {
             println!("number {number}: {}", self.met(number));
         }
-        for fault in 1..=7u8 {
+        for fault in 1..=8u8 {
             println!("F{fault}: {}", self.met(100 + fault));
         }
     }
@@ -306,12 +306,33 @@ fn check_count(table: &Table, state: &State, activity: usize, answer: u8) {
     }
 }
 
+/// A step is answered with F8 exactly at the END of a FINISH body with all inside ended and one of
+/// them faulted.
+fn check_passed_on(table: &Table, state: &State, activity: usize, answer: u8) {
+    let own = state.spawned().get(activity);
+    let Some([.., below, top]) = own.map(Activity::stack) else {
+        return assert_ne!(answer, 108);
+    };
+    let command = |frame: &Frame| &table.place(frame.body, frame.offset).unwrap().command;
+    let finish = matches!(command(below), Command::Finish { .. });
+    let inside = |other: &usize| comes_by(state, *other, activity) >= Some(top.first);
+    let inside: Vec<usize> = (1..state.spawned().len()).filter(inside).collect();
+    let all_ended = inside.iter().all(|&i| state.acts[i].has_ended());
+    let faulted = inside.iter().any(|&i| state.acts[i].has_faulted());
+    let passed_on = finish && *command(top) == Command::End && all_ended && faulted;
+    // 17 comes in its place.
+    if state.steps < table.work() {
+        assert_eq!(answer == 108, passed_on);
+    }
+}
+
 /// The ready set names those whose step is not refused with 14 to 16.
 fn check_ready(table: &Table, state: &State) {
     let ready = rules::ready(table, state);
     for activity in 0..usize::from(state.activities) + 2 {
         let answer = number(rules::step(table, &mut state.clone(), activity));
         check_count(table, state, activity, answer);
+        check_passed_on(table, state, activity, answer);
         let is_ready = activity < 64 && ready >> activity & 1 == 1;
         assert_eq!(is_ready, !matches!(answer, 14..=16));
     }
@@ -363,10 +384,7 @@ fn check_end(table: &Table, state: &State, length: usize, tally: &mut Tally) {
         assert!(length >= MOST, "an order ended before its run");
         return bump(&mut tally.runs, "cut");
     }
-    let faulted = state
-        .spawned()
-        .iter()
-        .any(|a| matches!(a.standing, Standing::Faulted(_)));
+    let faulted = state.spawned().iter().any(Activity::has_faulted);
     let counts = table.counts();
     if faulted {
         assert!(state.steps < table.work());
