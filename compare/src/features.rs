@@ -62,6 +62,23 @@ const FEATURES: &[(&str, Test)] = &[
     ("F6 of RESET", |c| c.faults(6, is_reset)),
     ("F7 of READ", |c| c.faults(7, is_read)),
     ("F7 of RESET", |c| c.faults(7, is_reset)),
+    ("F8 for a child", |c| c.answer == 108 && c.child_faulted()),
+    ("F8 for a grandchild and no child", |c| {
+        c.answer == 108 && !c.child_faulted()
+    }),
+    ("F8 for one with F8", |c| {
+        c.answer == 108 && c.passer_inside()
+    }),
+    ("F8 for one with F8 and one below it with F8", |c| {
+        c.answer == 108 && c.passers_inside()
+    }),
+    ("F8 in a FINISH nested 2 deep", |c| {
+        c.answer == 108 && c.finishes() > 1
+    }),
+    ("F8 within a REPEAT", |c| c.answer == 108 && c.repeats() > 0),
+    ("F8 by a holder of a clock that another waits on", |c| {
+        c.answer == 108 && c.keeps_another()
+    }),
     ("F1 where F2 applies too", |c| {
         c.answer == 101 && c.asks(Registration::Quiesced)
     }),
@@ -101,6 +118,9 @@ const FEATURES: &[(&str, Test)] = &[
     ("waiting at END for one whose spawner has ended", |c| {
         c.waits(|x| *x == Command::End) && c.orphans()
     }),
+    ("waiting at END with a faulted one inside", |c| {
+        c.waits(|x| *x == Command::End) && c.fault_inside()
+    }),
     ("waiting at READ", |c| c.waits(is_read)),
     ("waiting at RESET", |c| c.waits(is_reset)),
     (
@@ -120,6 +140,10 @@ const FEATURES: &[(&str, Test)] = &[
     ("END of a FINISH body past a child from before it", |c| {
         c.does(|x| *x == Command::End) && c.finishes() > 0 && c.unended_below() && c.tops_finish()
     }),
+    (
+        "END of a FINISH body past a faulted child from before it",
+        |c| c.does(|x| *x == Command::End) && c.tops_finish() && c.earlier_faulted(),
+    ),
     ("passing without a clock", |c| {
         c.passes() && c.own().held().count() == 0
     }),

@@ -77,7 +77,7 @@ impl Tally {
         println!("lists {}", self.lists);
         println!("  built {:?}", self.built);
         println!("  listed {:?}", self.listed);
-        let faults: Vec<String> = (1..=7)
+        let faults: Vec<String> = (1..=8)
             .map(|f| format!("F{f}: {}", times(100 + f)))
             .collect();
         println!("faults met {}", faults.join(", "));
@@ -89,7 +89,7 @@ impl Tally {
 
     /// The numbers, faults and features that were not met.
     pub fn missing(&self, features: &[&'static str]) -> Vec<String> {
-        let numbers = (1..=17).chain(101..=107);
+        let numbers = (1..=17).chain(101..=108);
         let numbers = numbers.filter(|number| !self.met.contains_key(number));
         let built = list_numbers().filter(|n| *n != NEVER_BUILT && !self.built.contains_key(n));
         let listed = list_numbers().filter(|n| !self.listed.contains_key(n));

@@ -10,6 +10,7 @@ mod faults;
 mod limits;
 mod lists;
 mod orders;
+mod passed_on;
 mod rng;
 mod strain;
 mod tables;

@@ -33,7 +33,7 @@ fn most_tables_are_accepted() {
 
 #[test]
 fn each_fault_is_met() {
-    for fault in 1..=7 {
+    for fault in 1..=8 {
         let mut rng = Rng::new(u64::from(fault));
         let met = (0..100).filter(|_| {
             let table = fault_table(&mut rng, fault);

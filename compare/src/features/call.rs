@@ -3,6 +3,10 @@
 use reference::rules;
 use reference::state::{Activity, Frame, Hold, Registration, Standing, State};
 use reference::table::{Command, Table};
+use reference::Fault;
+
+/// The standing of one that has passed a fault on.
+const PASSED_ON: Standing = Standing::Faulted(Fault::FaultInside);
 
 /// A call of a step in a run.
 pub struct Call<'a> {
@@ -170,12 +174,77 @@ impl Call<'_> {
         self.below_from(0)
     }
 
+    /// The activities inside the finish of the top body, by number.
+    fn inside(&self) -> Vec<usize> {
+        let first = self.own().top().map_or(0, |frame| frame.first);
+        self.below_from(usize::from(first))
+    }
+
+    fn is_child(&self, other: usize) -> bool {
+        usize::from(self.before.acts[other].spawner) == self.activity
+    }
+
     /// Whether an unended activity inside the finish of the top body is not a child of this one.
     pub fn grandchild_inside(&self) -> bool {
-        let first = self.own().top().map_or(0, |frame| frame.first);
         let acts = &self.before.acts;
-        let mut inside = self.below_from(usize::from(first)).into_iter();
-        inside.any(|i| !acts[i].has_ended() && usize::from(acts[i].spawner) != self.activity)
+        let mut inside = self.inside().into_iter();
+        inside.any(|i| !acts[i].has_ended() && !self.is_child(i))
+    }
+
+    fn has_faulted(&self, other: usize) -> bool {
+        self.before.acts[other].has_faulted()
+    }
+
+    /// Whether an activity inside the finish of the top body has faulted.
+    pub fn fault_inside(&self) -> bool {
+        self.inside().into_iter().any(|i| self.has_faulted(i))
+    }
+
+    /// Whether a child inside the finish of the top body has faulted.
+    pub fn child_faulted(&self) -> bool {
+        let mut inside = self.inside().into_iter();
+        inside.any(|i| self.has_faulted(i) && self.is_child(i))
+    }
+
+    /// Whether a child from before the finish of the top body has faulted.
+    pub fn earlier_faulted(&self) -> bool {
+        let inside = self.inside();
+        let mut all = self.descendants().into_iter();
+        all.any(|i| self.has_faulted(i) && self.is_child(i) && !inside.contains(&i))
+    }
+
+    /// Those inside the finish of the top body that have F8.
+    fn passers(&self) -> impl Iterator<Item = usize> + '_ {
+        let inside = self.inside().into_iter();
+        inside.filter(|&i| self.before.acts[i].standing == PASSED_ON)
+    }
+
+    /// Whether one inside the finish of the top body has F8.
+    pub fn passer_inside(&self) -> bool {
+        self.passers().next().is_some()
+    }
+
+    /// Whether one inside the finish of the top body has F8, and so has one below it.
+    pub fn passers_inside(&self) -> bool {
+        let passers: Vec<usize> = self.passers().collect();
+        let below = |i| {
+            Call {
+                activity: i,
+                ..*self
+            }
+            .descendants()
+        };
+        let mut all = passers.iter();
+        all.any(|&i| below(i).iter().any(|other| passers.contains(other)))
+    }
+
+    /// Whether another activity waits at a meeting for this one.
+    pub fn keeps_another(&self) -> bool {
+        let mut others = self.before.spawned().iter().enumerate();
+        others.any(|(i, other)| {
+            let late = |h: &Hold| self.own().held().any(|own| is_behind(own, h));
+            i != self.activity && other.standing == Standing::Meeting && other.held().any(late)
+        })
     }
 
     pub fn has_child(&self) -> bool {

@@ -2,7 +2,7 @@
 
 use super::codes::*;
 use super::context::{Binding, Context, Name};
-use super::faults::FAULT_BODIES;
+use super::faults::fault_bodies;
 use super::rng::Rng;
 
 /// How often each command is written: NEXT with a clock held and without, CLOCK, RESUME, DROP, ASYNC, FINISH, REPEAT, ACC, OFFER,
@@ -50,8 +50,8 @@ impl<'r> Author<'r> {
     /// A whole table; with a fault, its code comes somewhere in main or in a body named there.
     pub fn write_table(mut self, fault: Option<u8>) -> Vec<u8> {
         let mut context = Context::main();
-        if fault.is_some() {
-            self.most_bodies = self.most_bodies.min(16 - FAULT_BODIES);
+        if let Some(fault) = fault {
+            self.most_bodies = self.most_bodies.min(16 - fault_bodies(fault));
         }
         self.bodies.push(Vec::new());
         let mut code = Vec::new();
@@ -60,7 +60,9 @@ impl<'r> Author<'r> {
         self.open(&mut code, &mut context);
         for k in 0..length {
             if let Some(fault) = fault.filter(|_| k == fault_at) {
-                self.most_bodies = self.most_bodies.max(self.bodies.len() + FAULT_BODIES);
+                self.most_bodies = self
+                    .most_bodies
+                    .max(self.bodies.len() + fault_bodies(fault));
                 self.write_fault_somewhere(&mut code, &mut context, fault);
             }
             self.write_command(&mut code, 0, &mut context);

@@ -1,6 +1,7 @@
 //! Damaged states.
 
 use super::rng::Rng;
+use crate::answer::Fault;
 use crate::bytes::{
     decode, encode, ACCUMULATORS_AT, ACCUMULATOR_BYTES, ACTIVITIES_AT, ACTIVITY_BYTES, FRAMES_AT,
     FRAME_BYTES, HOLDS_AT, HOLD_BYTES, LENGTH,
@@ -38,6 +39,8 @@ const DAMAGES: &[(&str, Change)] = &[
     ("ended with clock", Fields(ended_with_clock)),
     ("unended made ended", Fields(unended_made_ended)),
     ("unended ended cleanly", Fields(unended_ended_cleanly)),
+    ("unended faulted cleanly", Fields(unended_faulted_cleanly)),
+    ("ended made faulted", Fields(ended_made_faulted)),
     ("stacked body changed", Fields(stacked_body_changed)),
     ("lowest body changed", Fields(lowest_body_changed)),
     ("stacked bodies swapped", Fields(stacked_bodies_swapped)),
@@ -318,12 +321,29 @@ fn unended_made_ended(state: &mut State, rng: &mut Rng) -> Option<()> {
 
 /// Fit, though perhaps no run gets there.
 fn unended_ended_cleanly(state: &mut State, rng: &mut Rng) -> Option<()> {
-    let activity = unended(state, rng)?;
-    activity.standing = Standing::Ended;
+    end(unended(state, rng)?, Standing::Ended);
+    Some(())
+}
+
+/// Fit too; a finish around it passes the fault on.
+fn unended_faulted_cleanly(state: &mut State, rng: &mut Rng) -> Option<()> {
+    let fault = rng.pick(&Fault::ALL);
+    end(unended(state, rng)?, Standing::Faulted(fault));
+    Some(())
+}
+
+/// Fit too.
+fn ended_made_faulted(state: &mut State, rng: &mut Rng) -> Option<()> {
+    let fault = rng.pick(&Fault::ALL);
+    ended(state, rng)?.standing = Standing::Faulted(fault);
+    Some(())
+}
+
+fn end(activity: &mut Activity, standing: Standing) {
+    activity.standing = standing;
     activity.depth = 0;
     activity.frames = Default::default();
     activity.holds = Default::default();
-    Some(())
 }
 
 fn stacked_body_changed(state: &mut State, rng: &mut Rng) -> Option<()> {
@@ -645,7 +665,7 @@ fn standing_byte(bytes: &mut [u8], rng: &mut Rng) -> Option<()> {
 
 fn fault_byte(bytes: &mut [u8], rng: &mut Rng) -> Option<()> {
     let at = ACTIVITIES_AT + ACTIVITY_BYTES * some_entry(bytes, rng) + 5;
-    *bytes.get_mut(at)? = rng.pick(&[0, 1, 7, 8, 255]);
+    *bytes.get_mut(at)? = rng.pick(&[0, 1, 7, 8, 9, 255]);
     Some(())
 }
 

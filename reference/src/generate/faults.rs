@@ -4,8 +4,13 @@ use super::author::Author;
 use super::codes::*;
 use super::context::{Binding, Context, Name};
 
-/// The most bodies that the code of a fault needs.
-pub const FAULT_BODIES: usize = 3;
+/// The most bodies that the code of a fault needs; F8 makes do with fewer than it could use.
+pub fn fault_bodies(fault: u8) -> usize {
+    match fault {
+        8 => 10,
+        _ => 3,
+    }
+}
 
 impl Author<'_> {
     /// The fault's code here, in a spawned body, a FINISH body or a REPEAT body.
@@ -40,7 +45,7 @@ impl Author<'_> {
         }
     }
 
-    fn write_fault(&mut self, code: &mut Vec<u8>, context: &mut Context, fault: u8) {
+    pub fn write_fault(&mut self, code: &mut Vec<u8>, context: &mut Context, fault: u8) {
         match fault {
             1 => self.write_unheld_clock(code, context),
             2 => self.write_quiesced_clock(code, context),
@@ -48,7 +53,8 @@ impl Author<'_> {
             4 => self.write_clock_twice(code, context),
             5 => self.write_unbound_name(code, context),
             6 => self.write_inherited_read(code, context),
-            _ => self.write_read_with_clock(code, context),
+            7 => self.write_read_with_clock(code, context),
+            _ => self.write_passed_on(code, context),
         }
     }
 
@@ -79,7 +85,7 @@ impl Author<'_> {
     }
 
     /// ASYNC of a short new body with this mask.
-    fn write_async_masked(&mut self, code: &mut Vec<u8>, context: &mut Context, mask: u8) {
+    pub fn write_async_masked(&mut self, code: &mut Vec<u8>, context: &mut Context, mask: u8) {
         let mut child = context.child(mask);
         let body = self.new_body(&mut child, |author, code, _, child| {
             author.write_next(code, child);

@@ -90,6 +90,10 @@ fn activity_tree(rng: &mut Rng, over: bool) -> Vec<u8> {
     }
     bodies.push(leaf(rng));
     if finish {
+        if rng.chance(30) {
+            // No clock is held: the last level faults.
+            bodies[5].splice(0..0, [DROP, 7]);
+        }
         wrap_in_finish(&mut bodies);
     }
     table_of(&bodies)

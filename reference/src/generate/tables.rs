@@ -9,11 +9,12 @@ use crate::table::Table;
 /// A table of any kind; most are accepted.
 pub fn random_table(rng: &mut Rng) -> Vec<u8> {
     match rng.below(1000) {
-        0..=679 => program_table(rng),
-        680..=829 => {
+        0..=639 => program_table(rng),
+        640..=789 => {
             let fault = rng.between(1, 7) as u8;
             fault_table(rng, fault)
         }
+        790..=829 => fault_table(rng, 8),
         830..=889 => limit_table(rng),
         890..=979 => damaged_table(rng),
         _ => noise_table(rng),
@@ -26,7 +27,7 @@ pub fn program_table(rng: &mut Rng) -> Vec<u8> {
     accepted_if_possible(rng, |rng| Author::new(rng, slips).write_table(None))
 }
 
-/// A table with code that leads some activity into the fault F1 to F7, unless it ends before.
+/// A table with code that leads some activity into the fault F1 to F8, unless it ends before.
 pub fn fault_table(rng: &mut Rng, fault: u8) -> Vec<u8> {
     accepted_if_possible(rng, |rng| Author::new(rng, 0).write_table(Some(fault)))
 }
