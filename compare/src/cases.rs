@@ -2,6 +2,7 @@
 
 mod counts;
 mod numbers;
+mod passed_on;
 mod tables;
 mod unfit;
 
@@ -40,6 +41,7 @@ pub fn all_agree(tally: &mut Tally) {
     tables::all_agree(tally);
     let mut tried = [false; CLAUSES.len()];
     let numbers = numbers::CASES.iter().chain(counts::CASES);
+    let numbers = numbers.chain(passed_on::CASES);
     for case in unfit::CASES.iter().chain(numbers) {
         agrees(case, tally);
         case.breaks.iter().for_each(|&clause| tried[clause] = true);

@@ -1,7 +1,8 @@
 //! Reached states with each of their bytes changed in turn.
 
+use reference::answer::number;
 use reference::bytes::{encode, LENGTH};
-use reference::generate::{order, program_table, OrderKind, Rng};
+use reference::generate::{fault_table, order, program_table, OrderKind, Rng};
 use reference::rules;
 use reference::state::State;
 
@@ -23,7 +24,8 @@ struct Reached {
 /// Every byte of some states of tables from the seed.
 pub fn all_agree(seed: u64) -> Tally {
     let mut rng = Rng::new(seed);
-    let states: Vec<Reached> = (0..STATES).map(|_| reached(&mut rng)).collect();
+    let mut states: Vec<Reached> = (1..STATES).map(|_| reached(&mut rng)).collect();
+    states.push(passing_on(&mut rng));
     cores::share(STATES * PARTS, |index, tally| {
         let swept = &states[(index / PARTS) as usize];
         let length = LENGTH / PARTS as usize;
@@ -48,6 +50,26 @@ fn reached(rng: &mut Rng) -> Reached {
         }
         if table.len() < 150 && is_rich(&state) {
             return Reached { job, state };
+        }
+    }
+}
+
+/// A state in which an activity is about to fault with F8, and some clock is held.
+fn passing_on(rng: &mut Rng) -> Reached {
+    loop {
+        let table = fault_table(rng, 8);
+        let order = order(rng, &table, OrderKind::Drive, 500);
+        let Some(job) = Job::read("a swept state before F8", &table) else {
+            continue;
+        };
+        let mut state = rules::start();
+        for &activity in &order {
+            let before = state.clone();
+            let answer = number(rules::step(&job.table, &mut state, activity));
+            let held = before.spawned().iter().any(|a| a.held().count() > 0);
+            if answer == 108 && held && table.len() < 150 && before.activities > 3 {
+                return Reached { job, state: before };
+            }
         }
     }
 }

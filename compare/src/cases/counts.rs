@@ -36,7 +36,7 @@ fn hold(state: &mut State, activity: usize, phase: u32, registration: Registrati
 }
 
 /// All activities after the last are spawned as it was, each by the one before it.
-fn chain(state: &mut State) {
+pub fn chain(state: &mut State) {
     let last = state.spawned().len() - 1;
     for i in last + 1..64 {
         state.acts[i] = state.acts[last];
@@ -45,7 +45,7 @@ fn chain(state: &mut State) {
     state.activities = 64;
 }
 
-fn end(state: &mut State, activity: usize) {
+pub fn end(state: &mut State, activity: usize) {
     let own = &mut state.acts[activity];
     own.standing = Standing::Ended;
     own.depth = 0;

@@ -1,4 +1,4 @@
-//! Numbers 14 to 17 and the faults: each cause of 17, and what comes first where two apply.
+//! Numbers 14 to 17 and F1 to F7: each cause of 17, and what comes first where two apply.
 
 use reference::state::{Hold, Registration, Standing, State, MAX_PHASE};
 
@@ -58,7 +58,7 @@ fn all_steps(state: &mut State) {
 }
 
 /// The activities not yet spawned become ended children of main.
-fn all_activities(state: &mut State) {
+pub fn all_activities(state: &mut State) {
     let spawned = state.spawned().len();
     for activity in &mut state.acts[spawned..] {
         activity.standing = Standing::Ended;

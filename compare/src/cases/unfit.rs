@@ -331,9 +331,14 @@ pub const CASES: &[Case] = &[
     no_state("a fault of one that runs", |b| b[at(0) + 5] = 1),
     no_state("a fault of one that ended", |b| b[at(2) + 5] = 7),
     no_state("faulted with fault 0", |b| b[at(2) + 4] = 3),
-    no_state("faulted with fault 8", |b| {
+    no_state("fault 8 of one that ended", |b| b[at(2) + 5] = 8),
+    no_state("faulted with fault 9", |b| {
         b[at(2) + 4] = 3;
-        b[at(2) + 5] = 8;
+        b[at(2) + 5] = 9;
+    }),
+    no_state("faulted with fault 255", |b| {
+        b[at(2) + 4] = 3;
+        b[at(2) + 5] = 255;
     }),
     no_state("registration 3", |b| b[at(1) + HOLDS_AT + 5] = 3),
     no_state("a reserved byte of a clock name", |b| {
