@@ -26,9 +26,7 @@ pub fn start() -> State {
 pub fn step(table: &Table, state: &mut State, activity: usize) -> Result<Outcome, Refusal> {
     let outcome = match prospect(table, state, activity)? {
         Prospect::Faults(fault) => Outcome::Faulted(fault),
-        Prospect::Awaits(0) => {
-            late_fault(table, state, activity).map_or(Outcome::Stepped, Outcome::Faulted)
-        }
+        Prospect::Awaits(0) => Outcome::Stepped,
         Prospect::Awaits(_) => return Err(Refusal::Waits),
     };
     let place = current(table, &state.acts[activity]);
@@ -84,13 +82,12 @@ pub fn registrations(state: &State) -> Sheet {
 
 /// What is before an unended activity.
 enum Prospect {
-    /// F1 to F7.
     Faults(Fault),
-    /// It waits for so many; with 0 its command is done or gives F8.
+    /// It waits for so many; with 0 its command can be done.
     Awaits(u8),
 }
 
-/// Numbers 14 and 15, or what is before the activity. F1 to F7 come before waiting.
+/// Numbers 14 and 15, or what is before the activity. F1 to F7 come before waiting, F8 after it.
 fn prospect(table: &Table, state: &State, activity: usize) -> Result<Prospect, Refusal> {
     let Some(own) = state.spawned().get(activity) else {
         return Err(Refusal::NotSpawned);
@@ -101,7 +98,8 @@ fn prospect(table: &Table, state: &State, activity: usize) -> Result<Prospect, R
     let command = &current(table, own).command;
     Ok(match fault(table, state, activity, command) {
         Some(fault) => Prospect::Faults(fault),
-        None => Prospect::Awaits(awaited_at(table, state, activity, command)),
+        None if ends_finish(table, own, command) => finish_prospect(state, activity),
+        None => Prospect::Awaits(awaited_at(state, activity, command)),
     })
 }
 
@@ -188,29 +186,39 @@ fn owner_fault(state: &State, activity: usize, name: u8) -> Option<Fault> {
     }
 }
 
-/// F8, the one fault that comes after waiting: for an activity that waits for nobody.
-fn late_fault(table: &Table, state: &State, activity: usize) -> Option<Fault> {
-    let own = &state.acts[activity];
-    let ends_finish = current(table, own).command == Command::End && is_finish(runner(table, own));
-    (ends_finish && inside(state, activity).any(Activity::has_faulted))
-        .then_some(Fault::FaultInside)
-}
-
 // Waiting
 
-/// How many activities this one waits for at a command that does not fault.
-fn awaited_at(table: &Table, state: &State, activity: usize, command: &Command) -> u8 {
+/// How many activities this one waits for at a command that does not fault, except at the END of a
+/// FINISH body.
+fn awaited_at(state: &State, activity: usize, command: &Command) -> u8 {
     let own = &state.acts[activity];
     match command {
         Command::Next if own.standing == Standing::Meeting => holders_behind(state, own),
-        Command::End if is_finish(runner(table, own)) => unended(inside(state, activity)),
-        Command::Read(_) | Command::Reset(_) => unended(below(state, activity, 0)),
+        Command::Read(_) | Command::Reset(_) => unended_below(state, activity),
         _ => 0,
     }
 }
 
-fn is_finish(runner: Option<&Place>) -> bool {
-    runner.is_some_and(|place| matches!(place.command, Command::Finish { .. }))
+/// Whether the command ends a body that a FINISH runs.
+fn ends_finish(table: &Table, own: &Activity, command: &Command) -> bool {
+    let runs = |place: &Place| matches!(place.command, Command::Finish { .. });
+    *command == Command::End && runner(table, own).is_some_and(runs)
+}
+
+/// At the END of a FINISH body: waiting for those inside that have not ended; then F8 where one
+/// inside has faulted.
+fn finish_prospect(state: &State, owner: usize) -> Prospect {
+    let mut unended = 0;
+    let mut faulted = false;
+    for other in inside(state, owner) {
+        unended += u8::from(!other.has_ended());
+        faulted |= other.has_faulted();
+    }
+    if unended == 0 && faulted {
+        Prospect::Faults(Fault::FaultInside)
+    } else {
+        Prospect::Awaits(unended)
+    }
 }
 
 /// How many activities keep an own clock from being quiescent in the own phase on it. One that
@@ -228,8 +236,10 @@ fn is_behind(other: &Activity, own: &Hold) -> bool {
     })
 }
 
-fn unended<'s>(activities: impl Iterator<Item = &'s Activity>) -> u8 {
-    activities.filter(|activity| !activity.has_ended()).count() as u8
+/// How many descendants have not ended.
+fn unended_below(state: &State, activity: usize) -> u8 {
+    let all = below(state, activity, 0);
+    all.filter(|other| !other.has_ended()).count() as u8
 }
 
 /// The activities inside the finish of the top body, ended ones too.
