@@ -231,6 +231,23 @@ static void fault(void)
     check(state[4] == 3, "a faulting step is taken", state[4]);
 }
 
+/* A finish passes a fault on: the child F1, then the owner F8; fault bytes 1 and 8, and 9 encodes no state. */
+static void passed_on(void)
+{
+    static const uint8_t job[] = {0x03, 0x06, 0x01, 0x00, 0x05, 0x02, 0x00, 0x00, 0x03, 0x00, 0x00};
+    static const uint8_t picks[] = {0, 0, 0, 1, 0, 0}, gives[] = {0, 0, 16, 101, 108, 15};
+    unsigned k, answer = stepmachine_start(job, sizeof job, state, STATE);
+    for (k = 0; k < sizeof picks; k++) {
+        answer = stepmachine_step(job, sizeof job, state, STATE, picks[k]);
+        check(answer == gives[k], "a fault inside a finish", k);
+    }
+    check(state[464 + 4] == 3 && state[464 + 5] == 8 && state[672 + 4] == 3 && state[672 + 5] == 1, "F8 and F1", state[464 + 5]);
+    check(state[4] == 4, "four steps are taken", state[4]);
+    state[464 + 5] = 9;
+    answer = stepmachine_step(job, sizeof job, state, STATE, 0);
+    check(answer == 13, "there is no F9", answer);
+}
+
 /* The sheet where main waits at the meeting: main quiesced, its child live. */
 static void sheet(void)
 {
@@ -292,6 +309,7 @@ int main(void)
     steps();
     example();
     fault();
+    passed_on();
     counts();
     sheet();
     sheet_rooms();

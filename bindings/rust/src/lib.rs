@@ -1,6 +1,6 @@
 //! The step machine's calls over lent bytes. The state's layout is in docs/STATE-BYTES.md.
 //!
-//! Each call answers the documents' number: 0, 100 plus f for fault f, or 1 to 18; or 255 where a run's answers have too little room. A
+//! Each call answers the documents' number: 0, 101 to 108 for fault F1 to F8, or 1 to 18; or 255 where a run's answers have too little room. A
 //! refused start writes the state of zeros, and a refused sheet is zeros; every other refused call leaves every lent byte as it was.
 
 /// The version of the layout, a state's first byte.

@@ -56,6 +56,18 @@ fn bytes_that_encode_no_state_give_13() {
 }
 
 #[test]
+fn a_finish_passes_a_fault_on() {
+    let table = [0x03, 0x06, 0x01, 0x00, 0x05, 0x02, 0x00, 0x00, 0x03, 0x00, 0x00];
+    let mut state = [0; 13776];
+    assert_eq!(start(&table, &mut state), 0);
+    for (activity, number) in [(0, 0), (0, 0), (0, 16), (1, 101), (0, 108), (0, 15)] {
+        assert_eq!(step(&table, &mut state, activity), number);
+    }
+    assert_eq!((state[464 + 4], state[464 + 5], state[672 + 5]), (3, 8, 1));
+    assert_eq!(ready(&table, &state), Ok(0));
+}
+
+#[test]
 fn who_is_answered_with_16_waits_for_somebody() {
     for steps in 0..=ORDER.len() {
         let state = after(steps);
