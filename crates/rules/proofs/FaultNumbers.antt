@@ -1,5 +1,5 @@
 -- The numbers of the faults: each gives its fault back, and none is 0 or above 8.
-use Prim.Native.Nat.{ℕ, _≤_}
+use Prim.Native.Nat.{_≤_}
 use native.Mathlib.Omega.{arith}
 use mathlib.Core.Path.{_≡_, refl}
 use Rattle.rules.specs.declared.state.Fault.{Fault}

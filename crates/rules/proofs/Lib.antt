@@ -20,6 +20,7 @@ pub mod StepLaws
 pub mod PersistBehind
 pub mod PersistTree
 pub mod Persist
+pub mod Delivered
 pub mod PersistFault
 pub mod HistoryOpen
 pub mod History

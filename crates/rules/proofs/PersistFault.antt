@@ -2,11 +2,10 @@
 -- inside have ended, so nobody inside can spawn or fault any more: F8 once due stays due, and where it is not due it does not become so.
 use Prim.Native.Nat.{ℕ, _<_}
 use native.Mathlib.Omega.{arith}
-use mathlib.Core.Bool.{Bool, true, false, cond, _&&_}
-use mathlib.Core.Path.{_≡_, refl, sym, ap, _∙_, subst}
+use mathlib.Core.Bool.{true, false, _&&_}
+use mathlib.Core.Path.{_≡_, refl, sym, _∙_, subst}
 use mathlib.Core.Logic.{_⊎_, inl, inr}
-use lib.Dec.{leb, eqb}
-use Rattle.program.specs.declared.command.Command.the-variants.{End}
+use lib.Dec.{leb}
 use Rattle.program.specs.Command.{isEnd}
 use Rattle.program.specs.Bodies.{Program}
 use Rattle.program.proofs.Shape.{Accepted}
@@ -15,17 +14,15 @@ use Rattle.rules.specs.declared.state.Status.the-variants.{Running, AtBa
 use Rattle.rules.specs.declared.state.State.{State}
 use Rattle.rules.specs.Search.{someBelow}
 use Rattle.rules.specs.State.{act, top, ended, isEnded, isFaulted}
-use Rattle.rules.specs.Tree.{here, inFinishBody, inside}
-use Rattle.rules.specs.Faults.{faultFor, faultedInside, spoilt}
-use Rattle.rules.specs.Waiting.{unendedInside, waitsFor}
-use Rattle.rules.specs.Effects.{envOf, applied}
+use Rattle.rules.specs.Tree.{inFinishBody, inside}
+use Rattle.rules.specs.Faults.{faultedInside, spoilt}
+use Rattle.rules.specs.Effects.{applied}
 use Rattle.rules.specs.WellFormed.{wellFormed}
 use Rattle.rules.specs.Steps.{Limits, at, breach, fault, effect, exceeds, canStep}
 use Rattle.rules.proofs.Tests.{and-true, and-intro, true-false, decide}
-use Rattle.rules.proofs.Search.{someBelow-witness, someBelow-intro, someBelow-none, both}
-use Rattle.rules.proofs.Awaited.{waitsAt, waits-live}
+use Rattle.rules.proofs.Search.{someBelow-witness, someBelow-intro, both}
 use Rattle.rules.proofs.Sized.{Sized}
-use Rattle.rules.proofs.Shapes.{kind, is-end}
+use Rattle.rules.proofs.Delivered.{inside-ended}
 use Rattle.rules.proofs.WellFormedFacts.{Facts, facts}
 use Rattle.rules.proofs.Turn.{Turn, after}
 use Rattle.rules.proofs.Applied.{Now, self, newborn, other, act-old}
@@ -47,20 +44,10 @@ module _ (l : Limits) {p : Program} (ok : Accepted p) {s : State} (f : Facts (l 
   first = top (act s x) .first
 
   -- it stands on the END of a FINISH body
-  module _ (end : here p (top (act s x)) .command ≡ End) (closing : inFinishBody p (act s x) ≡ true) where
-    -- all inside have ended
-    inside-ended : (y : ℕ) → y < s .activities → inside s x first y ≡ true → ended s y ≡ false → ⊥
-    unfolding at breach faultFor waitsFor unendedInside
-    inside-ended y h j n =
-        let w : eqb (faultFor p (envOf s) x (act s x) (here p (top (act s x)) .command)) 0 && waitsAt p s x (act s x) (here p (top (act s x)) .command) ≡ false =
-        sym (waits-live p s x (u .spawned) (u .unended)) ∙ u .moves in
-        let v : waitsAt p s x (act s x) End ≡ false = rw end at w in
-        true-false _ (and-intro (inFinishBody p (act s x)) _ closing (and-intro (inside s x first y) _ j (rw n)))
-        (someBelow-none (s .activities) (waitsFor p s x (act s x) End) v y h)
-
-    -- so the one who steps is not inside, nor is one whom it spawns
+  module _ (end : isEnd (at p s x .command) ≡ true) (closing : inFinishBody p (act s x) ≡ true) where
+    -- the one who steps is not inside, nor is one whom it spawns
     stays-out : inside s x first i ≡ true → ⊥
-    stays-out j = inside-ended i (t .spawned) j (t .unended)
+    stays-out j = true-false (ended s i) (inside-ended p s x u end closing i (t .spawned) j) (t .unended)
 
     -- who has faulted inside after the step had before
     was-faulted : (y : ℕ) → y < after p s i .activities → faultedInside (after p s i) x first y ≡ true → someBelow (s .activities) (faultedInside s x first) ≡ true
@@ -94,17 +81,14 @@ module _ (l : Limits) {p : Program} (ok : Accepted p) {s : State} (f : Facts (l 
         (λ e. let w = someBelow-witness (s .activities) (faultedInside s x first) e in still-faulted (w .at) (w .below) (w .passes))
 
   -- F8 is due as it was
-  same-spoilt : spoilt p (after p s i) x (act s x) (here p (top (act s x)) .command) ≡ spoilt p s x (act s x) (here p (top (act s x)) .command)
+  same-spoilt : spoilt p (after p s i) x (act s x) (at p s x .command) ≡ spoilt p s x (act s x) (at p s x .command)
   unfolding spoilt
-  same-spoilt = go (decide (isEnd (here p (top (act s x)) .command))) (decide (inFinishBody p (act s x)))
+  same-spoilt = go (decide (isEnd (at p s x .command))) (decide (inFinishBody p (act s x)))
     where
-      go : (isEnd (here p (top (act s x)) .command) ≡ true) ⊎ (isEnd (here p (top (act s x)) .command) ≡ false)
-          → (inFinishBody p (act s x) ≡ true) ⊎ (inFinishBody p (act s x) ≡ false)
-          → isEnd (here p (top (act s x)) .command) && (inFinishBody p (act s x) && someBelow (after p s i .activities) (faultedInside (after p s i) x first))
-          ≡ isEnd (here p (top (act s x)) .command) && (inFinishBody p (act s x) && someBelow (s .activities) (faultedInside s x first))
-      go (inl e) (inl c) =
-          rw (e, c)
-          (same-faulted (is-end (kind p (envOf s) x (act s x) (here p (top (act s x)) .command) (here p (top (act s x)) .inner)) e) c)
+      go : (isEnd (at p s x .command) ≡ true) ⊎ (isEnd (at p s x .command) ≡ false) → (inFinishBody p (act s x) ≡ true) ⊎ (inFinishBody p (act s x) ≡ false)
+          → isEnd (at p s x .command) && (inFinishBody p (act s x) && someBelow (after p s i .activities) (faultedInside (after p s i) x first))
+          ≡ isEnd (at p s x .command) && (inFinishBody p (act s x) && someBelow (s .activities) (faultedInside s x first))
+      go (inl e) (inl c) = rw (e, c) (same-faulted e c)
       go (inl e) (inr c) = rw (e, c)
       go (inr e) c = rw e
 

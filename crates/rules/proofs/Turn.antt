@@ -46,6 +46,14 @@ no-breach p s i = go (spoilt p s i (act s i) (at p s i .command))
     go true e = absurd (omega arith)
     go false e = e
 
+pub not-spoilt : (p : Program) (s : State) (i : ℕ) → fault p s i ≡ 0 → spoilt p s i (act s i) (at p s i .command) ≡ false
+unfolding fault
+not-spoilt p s i = go (spoilt p s i (act s i) (at p s i .command))
+  where
+    go : (b : Bool) → cond b 8 (breach p s i) ≡ 0 → b ≡ false
+    go true e = absurd (omega arith)
+    go false e = refl
+
 -- A fault is one of the two.
 pub fault-ways : (p : Program) (s : State) (i : ℕ) → (fault p s i ≡ 0 → ⊥) → (breach p s i ≡ 0 → ⊥) ⊎ (spoilt p s i (act s i) (at p s i .command) ≡ true)
 unfolding fault

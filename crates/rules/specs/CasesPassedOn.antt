@@ -2,7 +2,6 @@
 use Prim.Native.Nat.{ℕ}
 use mathlib.Core.List.{List, [], _∷_, _++_}
 use lib.ListN.{replicate}
-use Rattle.rules.specs.declared.state.Fault.{Fault}
 use Rattle.rules.specs.declared.state.Fault.the-variants.{F1, F2, F7, F8}
 use Rattle.rules.specs.declared.state.Status.{Status}
 use Rattle.rules.specs.declared.state.Status.the-variants.{Running, Ended, Faulted}
@@ -56,7 +55,7 @@ passedOn =
     }
     -- F8 drops the clock that activity 1 waits on: CLOCK 0, ASYNC 2 1, FINISH 1, NEXT; body 1 ASYNC 3 0; body 2 NEXT; body 3 RESUME 1.
     ∷ record {
-      table = 0x05 ∷ 0x02 ∷ 0x00 ∷ 0x05 ∷ 0x02 ∷ 0x01 ∷ 0x06 ∷ 0x01 ∷ 0x01 ∷ 0x00 ∷ 0x05 ∷ 0x03 ∷ 0x00 ∷ 0x00 ∷ 0x01 ∷ 0x00 ∷ 0x03 ∷ 0x01 ∷ 0x00 ∷ 0x00 ∷ [];
+      table = 0x04 ∷ 0x02 ∷ 0x00 ∷ 0x05 ∷ 0x02 ∷ 0x01 ∷ 0x06 ∷ 0x01 ∷ 0x01 ∷ 0x00 ∷ 0x05 ∷ 0x03 ∷ 0x00 ∷ 0x00 ∷ 0x01 ∷ 0x00 ∷ 0x03 ∷ 0x01 ∷ 0x00 ∷ [];
       order = 0 ∷ 0 ∷ 0 ∷ 0 ∷ 0 ∷ 1 ∷ 2 ∷ 1 ∷ 0 ∷ 1 ∷ 1 ∷ [];
       answers = running ∷ running ∷ running ∷ running ∷ waits ∷ atBarrier ∷ faulted F1 ∷ waits ∷ faulted F8 ∷ running ∷ ended ∷ [];
       after = written 9 1 [] (activity (Faulted F8) 0 0 [] [] [] ∷ activity Ended 0 0 [] [] [] ∷ activity (Faulted F1) 0 0 [] [] [] ∷ []) [];
