@@ -1,5 +1,6 @@
 //! Prints nanoseconds a step, and a call on a list or a table, of the machine beside the second interpreter, and draws how steps grow.
 //! Usage: bench FILE.svg
+mod finishes;
 mod jobs;
 mod lent;
 mod lists;
@@ -83,6 +84,15 @@ fn ready_sets() {
     }
 }
 
+/// An END that waits for those inside its finish, printed.
+fn finishes() {
+    println!("\nnanoseconds a turn at the END of a FINISH body that waits, with sixty-three inside");
+    println!("{:<42} {:>10} {:>10} {:>7}", "state", "machine", "reference", "ratio");
+    for (name, pace) in finishes::paces() {
+        println!("{name:<42} {:>10.0} {:>10.0} {:>7.2}", pace.machine, pace.reference, pace.ratio());
+    }
+}
+
 fn main() {
     let file = std::env::args().nth(1).expect("the file to draw to");
     println!("nanoseconds a step, medians; machine and reference in turn");
@@ -90,6 +100,7 @@ fn main() {
     calls();
     readings();
     ready_sets();
+    finishes();
     println!("\nas the activities grow");
     let activities = grown(ACTIVITIES.into_iter().map(|n| (n, SHORT)));
     println!("\nas the table grows");

@@ -7,7 +7,7 @@ use mathlib.Core.Logic.{_⊎_, inl, inr}
 use mathlib.Core.Bool.{Bool, true, false, _||_, _&&_, not, and-true as and-right}
 use lib.ListN.{getD, set, replicate}
 use lib.Dec.{ltb, leb, eqb}
-use borrow.Author.Tests.{ltb-true, ltb-false, leb-true, le-leb}
+use borrow.Author.Tests.{ltb-true, ltb-false, lt-ltb, le-ltb, leb-true, le-leb, eq-eqb, ne-eqb}
 use Rattle.rules.specs.declared.state.Status.{Status}
 use Rattle.rules.specs.declared.state.Status.the-variants.{Running, AtBarrier, Ended, Faulted}
 use Rattle.rules.specs.declared.state.Activity.{Activity}
@@ -25,7 +25,10 @@ use Rattle.fields.proofs.Own.{status-byte}
 use Rattle.waits.specs.declared.inside.Inside.{Inside}
 use Rattle.waits.specs.Waits.{isUnended, Lowest, Sees}
 
--- ENDED, BY THE BYTE
+-- STANDINGS, BY THE BYTE
+
+pub standing-there : {b : List ℕ} {x at r : ℕ} → Gets 1 b at r → at ≡ 468 + 208 * x → ReadsAct (λ (a : Activity). statusByte (a .status)) b x r
+standing-there {x = x} g e = record { reads = λ s l j. own-number l j 4 1 g (omega arith) (omega arith) ∙ status-byte (act s x) }
 
 status-below : (t : Status) → ltb (statusByte t) 2 ≡ not (isEnded t)
 status-below Running = refl
@@ -33,27 +36,14 @@ status-below AtBarrier = refl
 status-below Ended = refl
 status-below (Faulted f) = refl
 
-pub unended-there : {b : List ℕ} {x at r : ℕ} → Gets 1 b at r → at ≡ 468 + 208 * x → ReadsAct isUnended b x (ltb r 2)
-unended-there {x = x} {r = r} g e = record {
-  reads =
-      λ s l j.
-      let q : r ≡ statusByte (act s x .status) = own-number l j 4 1 g (omega arith) (omega arith) ∙ status-byte (act s x) in
-      ap (λ (n : ℕ). ltb n 2) q ∙ status-below (act s x .status);
-}
-
 status-three : (t : Status) → eqb (statusByte t) 3 ≡ isFaulted t
 status-three Running = refl
 status-three AtBarrier = refl
 status-three Ended = refl
 status-three (Faulted f) = refl
 
-pub faulted-there : {b : List ℕ} {x at r : ℕ} → Gets 1 b at r → at ≡ 468 + 208 * x → ReadsAct (λ (a : Activity). isFaulted (a .status)) b x (eqb r 3)
-faulted-there {x = x} {r = r} g e = record {
-  reads =
-      λ s l j.
-      let q : r ≡ statusByte (act s x .status) = own-number l j 4 1 g (omega arith) (omega arith) ∙ status-byte (act s x) in
-      ap (λ (n : ℕ). eqb n 3) q ∙ status-three (act s x .status);
-}
+pub unended-there : {b : List ℕ} {x r : ℕ} → ReadsAct (λ (a : Activity). statusByte (a .status)) b x r → ReadsAct isUnended b x (ltb r 2)
+unended-there {x = x} g = record { reads = λ s l j. ap (λ (n : ℕ). ltb n 2) (g .reads s l j) ∙ status-below (act s x .status) }
 
 -- NOBODY WHO IS TOO LOW
 
@@ -161,28 +151,30 @@ module _ {b : List ℕ} {w first made : ℕ} (made-of : Reads (λ (s : State). s
           passed = λ s l k. passed-outside s k w first (p .passed s l k) above (there s l) (is-inside s l k) n;
         }
 
-        module _ (i : r ≡ true) {u : Bool} (looked : ReadsAct isUnended b x u) where
-          looks : (s : State) → Lent b s → Rooted s → u ≡ not (ended s x)
-          looks s l k = let f = k .few in let m = there s l in looked .reads s l (omega arith)
+        module _ (i : r ≡ true) {n : ℕ} (looked : ReadsAct (λ (a : Activity). statusByte (a .status)) b x n) where
+          stands : (s : State) → Lent b s → Rooted s → n ≡ statusByte (act s x .status)
+          stands s l k = let f = k .few in let m = there s l in looked .reads s l (omega arith)
 
-          pub inside-unended : u ≡ true → InsideTo b w first (set marks x r) (count + 1) found (x + 1)
-          inside-unended n = record {
+          unended : (s : State) → Lent b s → Rooted s → ltb n 2 ≡ not (ended s x)
+          unended s l k = ap (λ (n : ℕ). ltb n 2) (stands s l k) ∙ status-below (act s x .status)
+
+          faulted : (s : State) → Lent b s → Rooted s → eqb n 3 ≡ isFaulted (act s x .status)
+          faulted s l k = ap (λ (n : ℕ). eqb n 3) (stands s l k) ∙ status-three (act s x .status)
+
+          pub inside-unended : n < 2 → InsideTo b w first (set marks x r) (count + 1) found (x + 1)
+          inside-unended h = record {
             few = let f = p .few in omega arith;
-            passed = λ s l k. passed-unended s k w first (p .passed s l k) above (there s l) (is-inside s l k) i (looks s l k) n;
+            passed = λ s l k. passed-unended s k w first (p .passed s l k) above (there s l) (is-inside s l k) i (unended s l k) (lt-ltb n 2 h);
           }
 
-          module _ (n : u ≡ false) {v : Bool} (found-out : ReadsAct (λ (a : Activity). isFaulted (a .status)) b x v) where
-            finds-out : (s : State) → Lent b s → Rooted s → v ≡ isFaulted (act s x .status)
-            finds-out s l k = let f = k .few in let m = there s l in found-out .reads s l (omega arith)
+          pub inside-ended : 2 ≤ n → (n ≡ 3 → ⊥) → InsideTo b w first (set marks x r) count found (x + 1)
+          inside-ended h o = record {
+            few = let f = p .few in omega arith;
+            passed = λ s l k. passed-ended s k w first (p .passed s l k) above (there s l) (is-inside s l k) i (unended s l k) (le-ltb n 2 h) (faulted s l k) (ne-eqb n 3 o);
+          }
 
-            pub inside-ended : v ≡ false → InsideTo b w first (set marks x r) count found (x + 1)
-            inside-ended o = record {
-              few = let f = p .few in omega arith;
-              passed = λ s l k. passed-ended s k w first (p .passed s l k) above (there s l) (is-inside s l k) i (looks s l k) n (finds-out s l k) o;
-            }
-
-            pub inside-faulted : v ≡ true → InsideTo b w first (set marks x r) count true (x + 1)
-            inside-faulted o = record {
-              few = let f = p .few in omega arith;
-              passed = λ s l k. passed-faulted s k w first (p .passed s l k) above (there s l) (is-inside s l k) i (looks s l k) n (finds-out s l k) o;
-            }
+          pub inside-faulted : 2 ≤ n → n ≡ 3 → InsideTo b w first (set marks x r) count true (x + 1)
+          inside-faulted h o = record {
+            few = let f = p .few in omega arith;
+            passed = λ s l k. passed-faulted s k w first (p .passed s l k) above (there s l) (is-inside s l k) i (unended s l k) (le-ltb n 2 h) (faulted s l k) (eq-eqb n 3 o);
+          }

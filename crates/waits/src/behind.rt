@@ -1,8 +1,9 @@
 // Passing waits for the activities that are behind on an own clock.
 ghost use mathlib.Core.Path.{_≡_};
 ghost use lib.ListN.{length};
-ghost use Rattle.waits.specs.Waits.{OwnPlaces, Late, Behind};
-use super::inside::is_unended;
+ghost use Rattle.waits.specs.Waits.{isUnended, OwnPlaces, Late, Behind};
+ghost use Rattle.fields.specs.Lent.{ReadsAct};
+use super::inside::standing_at;
 use fields::counts::activities_of;
 use fields::holds::hold_at;
 use parts::checks::is_held;
@@ -45,6 +46,13 @@ fn is_late(hold: &[u8], own: &[usize]) -> bool
     }
     let phase = wide(hold[0]) + 256 * wide(hold[1]);
     2 * phase + registration < own[clock]
+}
+
+// Whether an activity has neither ended nor faulted.
+fn is_unended(state: &[u8], x: usize) -> bool
+    ensures { λ r. ⌜ ReadsAct isUnended (now (state .entry)) x r ⌝ }
+{
+    standing_at(state, x) < 2
 }
 
 // How many activities are behind on an own clock. Each is counted once: the loop over its names is left at the first that is late. One that has ended holds nothing.

@@ -3,10 +3,10 @@ ghost use Prim.Native.Nat.{_<_};
 ghost use mathlib.Core.Path.{_≡_};
 ghost use mathlib.Core.Bool.{false, _||_};
 ghost use lib.Dec.{eqb};
+ghost use Rattle.encoding.specs.Encode.{statusByte};
 ghost use Rattle.fields.specs.Lent.{ReadsAct};
-ghost use Rattle.rules.specs.State.{isFaulted};
 ghost use Rattle.rules.specs.declared.state.Activity.{Activity};
-ghost use Rattle.waits.specs.Waits.{isUnended, Lowest, Sees};
+ghost use Rattle.waits.specs.Waits.{Lowest, Sees};
 use fields::activities::spawner_at;
 use fields::bytes::get1;
 use fields::counts::activities_of;
@@ -48,24 +48,14 @@ fn joins(spawner: usize, w: usize, above: bool) -> bool
     above
 }
 
-// Whether an activity has neither ended nor faulted.
-pub(crate) fn is_unended(state: &[u8], x: usize) -> bool
-    ensures { λ r. ⌜ ReadsAct isUnended (now (state .entry)) x r ⌝ }
+// The byte of an activity's standing: 0 running, 1 at a meeting, 2 ended, 3 faulted.
+pub(crate) fn standing_at(state: &[u8], x: usize) -> u8
+    ensures { λ r. ⌜ ReadsAct (λ (a : Activity). statusByte (a .status)) (now (state .entry)) x r ⌝ }
 {
     if 64 <= x {
-        return false;
+        return 0;
     }
-    get1(state, 468 + 208 * x) < 2
-}
-
-// Whether an activity has faulted.
-fn is_faulted(state: &[u8], x: usize) -> bool
-    ensures { λ r. ⌜ ReadsAct (λ (a : Activity). isFaulted (a .status)) (now (state .entry)) x r ⌝ }
-{
-    if 64 <= x {
-        return false;
-    }
-    get1(state, 468 + 208 * x) == 3
+    get1(state, 468 + 208 * x)
 }
 
 // Those inside, in one pass upwards: an activity's spawner is lower than it.
@@ -97,9 +87,10 @@ pub fn inside_of(state: &[u8], w: usize, first: usize) -> Inside
         let within = joins(spawner, w, inside[spawner]);
         inside[at] = within;
         if within {
-            if is_unended(state, at) {
+            let standing = standing_at(state, at);
+            if standing < 2 {
                 unended += 1;
-            } else if is_faulted(state, at) {
+            } else if standing == 3 {
                 faulted = true;
             }
         }

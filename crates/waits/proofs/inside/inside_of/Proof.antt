@@ -56,12 +56,12 @@ loop-again c =
       omega arith,
       omega arith,
       inside-unended (j .before .before .before .before .before .activities-of .ensures) (v .3) (v .0) (v .1) (t .loop-test .taken) (a .spawner-at .ensures) (g .joins .ensures)
-          (c .before .before .if5 .taken) (c .before .is-unended .ensures) (c .if6 .taken),
+          (c .before .before .if5 .taken) (c .before .standing-at .ensures) (c .if6 .taken),
     )
 
 loop-again-2 : tie.Need-loop-again-2 Inv-loop μ-loop
 loop-again-2 c =
-    let n = c .before .before in
+    let n = c .before in
     let g = n .before .before .before in
     let a = g .before .before in
     let t = a .before in
@@ -71,12 +71,12 @@ loop-again-2 c =
       omega arith,
       omega arith,
       inside-faulted (j .before .before .before .before .before .activities-of .ensures) (v .3) (v .0) (v .1) (t .loop-test .taken) (a .spawner-at .ensures) (g .joins .ensures)
-          (n .before .before .if5 .taken) (n .before .is-unended .ensures) (n .if6 .left) (c .before .is-faulted .ensures) (c .if7 .taken),
+          (n .before .before .if5 .taken) (n .before .standing-at .ensures) (n .if6 .left) (c .if7 .taken),
     )
 
 loop-again-3 : tie.Need-loop-again-3 Inv-loop μ-loop
 loop-again-3 c =
-    let n = c .before .before in
+    let n = c .before in
     let g = n .before .before .before in
     let a = g .before .before in
     let t = a .before in
@@ -86,7 +86,7 @@ loop-again-3 c =
       omega arith,
       omega arith,
       inside-ended (j .before .before .before .before .before .activities-of .ensures) (v .3) (v .0) (v .1) (t .loop-test .taken) (a .spawner-at .ensures) (g .joins .ensures)
-          (n .before .before .if5 .taken) (n .before .is-unended .ensures) (n .if6 .left) (c .before .is-faulted .ensures) (c .if7 .left),
+          (n .before .before .if5 .taken) (n .before .standing-at .ensures) (n .if6 .left) (c .if7 .left),
     )
 
 loop-again-4 : tie.Need-loop-again-4 Inv-loop μ-loop
@@ -114,5 +114,5 @@ inside-of-spec =
     (λ nobody-requires-2 κs. search needs) returns-2 (λ lowest-requires κs. search needs) (λ nobody-requires-3 κs. search needs) returns-3 loop-holds
     (λ add-x. search needs) (λ spawner-at-requires κs. search needs) (λ cast-spawner. search needs) (λ nobody-requires-4 κs. search needs) returns-4
     (λ array-read-joins. search needs) (λ joins-requires κs. search needs) (λ array-write-inside. search needs)
-    (λ is-unended-requires κs. search needs) add-unended (λ loop-less. search needs) loop-again (λ is-faulted-requires κs. search needs)
-    (λ loop-less-2. search needs) loop-again-2 (λ loop-less-3. search needs) loop-again-3 (λ loop-less-4. search needs) loop-again-4 returns-5)
+    (λ standing-at-requires κs. search needs) add-unended (λ loop-less. search needs) loop-again (λ loop-less-2. search needs) loop-again-2
+    (λ loop-less-3. search needs) loop-again-3 (λ loop-less-4. search needs) loop-again-4 returns-5)
