@@ -10,16 +10,15 @@ use lib.Seq.{getD-set-same, getD-set-other}
 use lib.Dec.{leb, eqb}
 use borrow.Author.Count.{below-more}
 use borrow.Author.Tests.{lt-ltb, le-leb}
-use Rattle.rules.specs.declared.state.Status.{Status}
-use Rattle.rules.specs.declared.state.Status.the-variants.{Running, AtBarrier, Ended, Faulted}
 use Rattle.rules.specs.declared.state.State.{State}
-use Rattle.rules.specs.State.{act, isEnded, isFaulted, ended}
+use Rattle.rules.specs.State.{act, isFaulted, ended}
 use Rattle.rules.specs.Search.{someBelow, countBelow, chain}
 use Rattle.rules.specs.Tree.{spawnerOf, descends, inside}
 use Rattle.rules.specs.Faults.{faultedInside}
 use Rattle.rules.specs.Waiting.{unendedBelow, unendedInside}
 use Rattle.rules.proofs.Tests.{decide, true-false, not-true}
 use Rattle.rules.proofs.Search.{someBelow-all, chain-above, chain-step}
+use Rattle.rules.proofs.Delivered.{unended-faultless}
 use Rattle.rules.proofs.Counting.{counted, uncounted, last, count-alike, count-none}
 use Rattle.places.specs.Rooted.{Rooted}
 use Rattle.places.proofs.Searches.{some-more}
@@ -30,13 +29,6 @@ pub record Passed (s : State) (w first : ℕ) (marks : List Bool) (count : ℕ) 
   pub marked : (k : ℕ) → k < x → getD marks k false ≡ inside s w first k
   pub counts : count ≡ countBelow x (unendedInside s w first)
   pub finds : found ≡ someBelow x (faultedInside s w first)
-
--- Who has not ended has not faulted.
-unended-faultless : (t : Status) → isEnded t ≡ false → isFaulted t ≡ false
-unended-faultless Running e = refl
-unended-faultless AtBarrier e = refl
-unended-faultless Ended e = refl
-unended-faultless (Faulted f) e = absurd (true-false true refl e)
 
 -- Nobody up to the owner is inside.
 pub outside : (s : State) (w first x : ℕ) → x ≤ w → inside s w first x ≡ false

@@ -23,8 +23,15 @@ use Rattle.rules.proofs.Tests.{and-false, true-false, not-false}
 use Rattle.rules.proofs.Search.{someBelow-none}
 use Rattle.rules.proofs.Awaited.{waitsAt, waits-live}
 use Rattle.rules.proofs.Shapes.{kind, is-end}
-use Rattle.rules.proofs.Turn.{Turn, turn, not-spoilt, effect-failed}
+use Rattle.rules.proofs.Turn.{Turn, turn, faultless, effect-failed}
 use Rattle.rules.proofs.StepLaws.{Outcome, unfits, refuses, overflows, takes, outcome}
+
+-- Who has not ended has not faulted.
+pub unended-faultless : (t : Status) → isEnded t ≡ false → isFaulted t ≡ false
+unended-faultless Running e = refl
+unended-faultless AtBarrier e = refl
+unended-faultless Ended e = refl
+unended-faultless (Faulted f) e = absurd (true-false true refl e)
 
 -- Ended, and not by a fault.
 ended-well : (t : Status) → isEnded t ≡ true → isFaulted t ≡ false → t ≡ Ended
@@ -49,7 +56,7 @@ module _ (p : Program) (s : State) (i : ℕ) (u : Turn p s i) (end : isEnd (at p
   pub inside-well : fault p s i ≡ 0 → (x : ℕ) → x < s .activities → inside s i (top (act s i) .first) x ≡ true → act s x .status ≡ Ended
   unfolding spoilt faultedInside
   inside-well f x h j =
-      let v = and-false (inFinishBody p (act s i)) _ (and-false (isEnd (at p s i .command)) _ (not-spoilt p s i f) end) closing in
+      let v = and-false (inFinishBody p (act s i)) _ (and-false (isEnd (at p s i .command)) _ (faultless p s i f .1) end) closing in
       let n = someBelow-none (s .activities) (faultedInside s i (top (act s i) .first)) v x h in
       ended-well (act s x .status) (inside-ended x h j) (and-false (inside s i (top (act s i) .first) x) _ n j)
 
@@ -60,9 +67,9 @@ step-faultless l t s i e = go (outcome l t s i)
     p : Program
     p = programOf t
 
-    faultless : statusAnswer (effect p s i .self .status) ≡ 0 → Dec (fault p s i ≡ 0) → fault p s i ≡ 0
-    faultless z (yes f) = f
-    faultless z (no f) =
+    meets-none : statusAnswer (effect p s i .self .status) ≡ 0 → Dec (fault p s i ≡ 0) → fault p s i ≡ 0
+    meets-none z (yes f) = f
+    meets-none z (no f) =
         let q : 100 + faultNumber (faultOf (fault p s i)) ≡ 0 = sym (ap (λ (x : Effect). statusAnswer (x .self .status)) (effect-failed p s i f)) ∙ z in
         absurd (omega arith)
 
@@ -70,7 +77,7 @@ step-faultless l t s i e = go (outcome l t s i)
     go (unfits n q h d) = absurd (h (sym (ap (λ (x : Stepped). answerNumber (x .answer)) d) ∙ e))
     go (refuses n q h d) = absurd (h (sym (ap (λ (x : Stepped). answerNumber (x .answer)) d) ∙ e))
     go (overflows q x d) = let z : _≡_ {A = ℕ} 17 0 = sym (ap (λ (x : Stepped). answerNumber (x .answer)) d) ∙ e in absurd (omega arith)
-    go (takes a b c x d) = (turn p s i c, faultless (sym (ap (λ (x : Stepped). answerNumber (x .answer)) d) ∙ e) (ℕ-discrete (fault p s i) 0))
+    go (takes a b c x d) = (turn p s i c, meets-none (sym (ap (λ (x : Stepped). answerNumber (x .answer)) d) ∙ e) (ℕ-discrete (fault p s i) 0))
 
 -- So where the step of one that stands on the END of a FINISH body is answered with 0, each activity inside has ended, and not by a fault.
 pub delivered : (l : Limits) (t : List ℕ) (s : State) (i : ℕ) → answerNumber (step l t s i .answer) ≡ 0 → isEnd (at (programOf t) s i .command) ≡ true

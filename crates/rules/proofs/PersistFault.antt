@@ -3,17 +3,15 @@
 use Prim.Native.Nat.{ℕ, _<_}
 use native.Mathlib.Omega.{arith}
 use mathlib.Core.Bool.{true, false, _&&_}
-use mathlib.Core.Path.{_≡_, refl, sym, _∙_, subst}
+use mathlib.Core.Path.{_≡_, sym, _∙_, subst}
 use mathlib.Core.Logic.{_⊎_, inl, inr}
 use lib.Dec.{leb}
 use Rattle.program.specs.Command.{isEnd}
 use Rattle.program.specs.Bodies.{Program}
 use Rattle.program.proofs.Shape.{Accepted}
-use Rattle.rules.specs.declared.state.Status.{Status}
-use Rattle.rules.specs.declared.state.Status.the-variants.{Running, AtBarrier, Ended, Faulted}
 use Rattle.rules.specs.declared.state.State.{State}
 use Rattle.rules.specs.Search.{someBelow}
-use Rattle.rules.specs.State.{act, top, ended, isEnded, isFaulted}
+use Rattle.rules.specs.State.{act, top, ended, isFaulted}
 use Rattle.rules.specs.Tree.{inFinishBody, inside}
 use Rattle.rules.specs.Faults.{faultedInside, spoilt}
 use Rattle.rules.specs.Effects.{applied}
@@ -22,20 +20,13 @@ use Rattle.rules.specs.Steps.{Limits, at, breach, fault, effect, exceeds
 use Rattle.rules.proofs.Tests.{and-true, and-intro, true-false, decide}
 use Rattle.rules.proofs.Search.{someBelow-witness, someBelow-intro, both}
 use Rattle.rules.proofs.Sized.{Sized}
-use Rattle.rules.proofs.Delivered.{inside-ended}
+use Rattle.rules.proofs.Delivered.{unended-faultless, inside-ended}
 use Rattle.rules.proofs.WellFormedFacts.{Facts, facts}
 use Rattle.rules.proofs.Turn.{Turn, after}
 use Rattle.rules.proofs.Applied.{Now, self, newborn, other, act-old}
 use Rattle.rules.proofs.WellFormedApply.{Room, room, acts-after}
 use Rattle.rules.proofs.PersistTree.{entry, chain-old, chain-child}
 use Rattle.rules.proofs.Persist.{record-old, same-breach, can-step}
-
--- Who has faulted has ended.
-faulted-ended : (t : Status) → isFaulted t ≡ true → isEnded t ≡ true
-faulted-ended Running e = absurd (true-false false e refl)
-faulted-ended AtBarrier e = absurd (true-false false e refl)
-faulted-ended Ended e = refl
-faulted-ended (Faulted f) e = refl
 
 module _ (l : Limits) {p : Program} (ok : Accepted p) {s : State} (f : Facts (l .phase) p s) (z : Sized s) (i : ℕ) (t : Turn p s i) (r : Room l p s (effect p s i))
     (x : ℕ) (d : x ≡ i → ⊥) (u : Turn p s x) where
@@ -70,7 +61,7 @@ module _ (l : Limits) {p : Program} (ok : Accepted p) {s : State} (f : Facts (l 
     unfolding faultedInside inside
     still-faulted y h e =
         let q = and-true (inside s x first y) _ e in
-        let n : y ≡ i → ⊥ = λ w. true-false (ended s i) (subst (λ y. ended s y ≡ true) w (faulted-ended (act s y .status) (q .1))) (t .unended) in
+        let n : y ≡ i → ⊥ = λ w. true-false (isFaulted (act s i .status)) (subst (λ y. isFaulted (act s y .status) ≡ true) w (q .1)) (unended-faultless (act s i .status) (t .unended)) in
         let m : act (after p s i) y ≡ act s y = act-old s i (effect p s i) y h n in
         someBelow-intro (after p s i .activities) (faultedInside (after p s i) x first) y (omega (arith, acts-after s i (effect p s i) .up))
         (and-intro (inside (after p s i) x first y) _ (chain-old l ok f z i t r (leb first) x y h ∙ q .0) (rw m (q .1)))

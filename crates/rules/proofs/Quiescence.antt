@@ -16,7 +16,7 @@ use Rattle.rules.proofs.Shapes.{OfChild, Kind, kind}
 use Rattle.rules.proofs.Applied.{each, Fits}
 use Rattle.rules.proofs.Holders.{turned, turned-none}
 use Rattle.rules.proofs.Stable.{quiet-applied, quiet-turned, quiet-born}
-use Rattle.rules.proofs.Turn.{Turn, turn, no-breach, doing, failed, by-fault}
+use Rattle.rules.proofs.Turn.{Turn, turn, faultless, doing, failed, by-fault}
 use Rattle.rules.proofs.Reached.{Reached}
 use Rattle.rules.proofs.ReachedStep.{doing-fits}
 
@@ -28,7 +28,7 @@ stable-step c q p ok few s g i e l h =
     by-fault p s i (λ x. quiescent (applied s i x) c q ≡ true)
     (λ f.
     quiet-applied c q s (g .inv .bounded) i (r .spawned) (doing p s i) (doing-fits p ok few s g i (r .spawned) (r .unended))
-    (quiet-turned c q (s .clocks) l (act s i .holds) (doing p s i .self .holds) (turned its)) (quiet-born c q eight (no-breach p s i f) its) h)
+    (quiet-turned c q (s .clocks) l (act s i .holds) (doing p s i .self .holds) (turned its)) (quiet-born c q eight (faultless p s i f .0) its) h)
     (λ f.
     quiet-applied c q s (g .inv .bounded) i (r .spawned) (failed p s i) tt
     (quiet-turned c q (s .clocks) l (act s i .holds) (failed p s i .self .holds) (turned-none (s .clocks) (act s i .holds) 8)) tt h)

@@ -33,7 +33,7 @@ use Rattle.rules.proofs.Containment.{held-turned, born-after, Opening}
 use Rattle.rules.proofs.Stack.{Stack}
 use Rattle.rules.proofs.Potential.{pend, pend-ended}
 use Rattle.rules.proofs.Spending.{spent, pendChild, spends, standing, stack-born, Left, left-by, fault-pend, spoilt-pend}
-use Rattle.rules.proofs.Turn.{turn, no-breach, fault-ways, doing, failed, by-fault}
+use Rattle.rules.proofs.Turn.{turn, faultless, fault-ways, doing, failed, by-fault}
 use Rattle.rules.proofs.Sizes.{size-self, size-born, size-stopped}
 use Rattle.rules.proofs.Pending.{total, spent-work, next-makes, spent-own, next-work, work-some, total-applied}
 use Rattle.rules.proofs.Reached.{Inv, Reached}
@@ -140,7 +140,7 @@ module _ (p : Program) (ok : Accepted p) (few : activitiesOf p ≤ 64) (s : Stat
         fits = doing-fits;
         same-spawner = same-spawner its;
         holdings = held-turned (s .clocks) (act s i) (doing p s i .self) (turned its);
-        child = born-after (size .holds8) (no-breach p s i f) its;
+        child = born-after (size .holds8) (faultless p s i f .0) its;
         opening = left .opening;
       })
       vt′ base′ (λ c l. upd-other (g .base) (s .clocks) (g .vt i) c (λ z. omega arith))
@@ -149,7 +149,7 @@ module _ (p : Program) (ok : Accepted p) (few : activitiesOf p ≤ 64) (s : Stat
       (subst (λ v. Fine made′ base′ v i (doing p s i .self)) (sym now)
       (fine-self p (envOf s) (g .base) (g .vt i) i (act s i) (g .inv .fine i h) r (standing p ok s i (act s i) st r (g .inv .meets i h)) its))
       (subst (λ v. OfChild (Fine made′ base′ v (s .activities)) (doing p s i .spawned)) (sym born-time)
-      (fine-born p (envOf s) (g .base) (g .vt i) i (act s i) (g .inv .fine i h) r made′ (s .activities) (grows (s .clocks) (doing p s i .clocked)) h (size .holds8) (no-breach p s i f) its))
+      (fine-born p (envOf s) (g .base) (g .vt i) i (act s i) (g .inv .fine i h) r made′ (s .activities) (grows (s .clocks) (doing p s i .clocked)) h (size .holds8) (faultless p s i f .0) its))
       (left .stack) (left .meets) (stack-born p ok s i (act s i) st r (g .inv .meets i h) (at p s i .command) refl its)
       (rw now (omega (arith, later-slow (g .vt i) (at p s i .command) (isAtBarrier (act s i .status)), g .inv .slow i h)))
       (any-child (vt′ (s .activities) ≤ s .steps + 1) (rw born-time (omega (arith, g .inv .slow i h))) (doing p s i .spawned))

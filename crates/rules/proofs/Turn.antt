@@ -37,22 +37,14 @@ pub turn-back : (p : Program) (s : State) (i : ℕ) → Turn p s i → refusal p
 unfolding refusal
 turn-back p s i t = rw (lt-ltb i (s .activities) (t .spawned), t .unended, t .moves)
 
--- No fault is no breach, and nothing faulted that END of a FINISH body passes on.
-pub no-breach : (p : Program) (s : State) (i : ℕ) → fault p s i ≡ 0 → breach p s i ≡ 0
+-- No fault: no breach, and nothing that the END of a FINISH body passes on.
+pub faultless : (p : Program) (s : State) (i : ℕ) → fault p s i ≡ 0 → (breach p s i ≡ 0) × (spoilt p s i (act s i) (at p s i .command) ≡ false)
 unfolding fault
-no-breach p s i = go (spoilt p s i (act s i) (at p s i .command))
+faultless p s i = go (spoilt p s i (act s i) (at p s i .command))
   where
-    go : (b : Bool) → cond b 8 (breach p s i) ≡ 0 → breach p s i ≡ 0
+    go : (b : Bool) → cond b 8 (breach p s i) ≡ 0 → (breach p s i ≡ 0) × (b ≡ false)
     go true e = absurd (omega arith)
-    go false e = e
-
-pub not-spoilt : (p : Program) (s : State) (i : ℕ) → fault p s i ≡ 0 → spoilt p s i (act s i) (at p s i .command) ≡ false
-unfolding fault
-not-spoilt p s i = go (spoilt p s i (act s i) (at p s i .command))
-  where
-    go : (b : Bool) → cond b 8 (breach p s i) ≡ 0 → b ≡ false
-    go true e = absurd (omega arith)
-    go false e = refl
+    go false e = (e, refl)
 
 -- A fault is one of the two.
 pub fault-ways : (p : Program) (s : State) (i : ℕ) → (fault p s i ≡ 0 → ⊥) → (breach p s i ≡ 0 → ⊥) ⊎ (spoilt p s i (act s i) (at p s i .command) ≡ true)

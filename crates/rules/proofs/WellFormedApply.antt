@@ -20,7 +20,7 @@ use Rattle.rules.specs.Steps.{Limits, at, breach, effect, spawns, makes,
 use Rattle.rules.proofs.Tests.{and-false, or-false}
 use Rattle.rules.proofs.Search.{someBelow-none}
 use Rattle.rules.proofs.Lists.{Stored, new, old, stored}
-use Rattle.rules.proofs.Turn.{no-breach, by-fault}
+use Rattle.rules.proofs.Turn.{faultless, by-fault}
 use Rattle.rules.proofs.WellFormedPlaces.{placed-sound}
 use Rattle.rules.proofs.WellFormedFacts.{Facts}
 use Rattle.rules.proofs.WellFormedShape.{Shape, fails, shape, Naming, keeps, adds, offers, resets}
@@ -69,7 +69,7 @@ module _ {limit : ℕ} {p : Program} {s : State} (ok : Accepted p) (f : Facts li
       by-fault p s i (Shape p s i (act s i) (here p (top (act s i)) .command))
       (λ e.
       shape p s i (act s i) u (f .spawned i l .bounds) (here p (top (act s i)) .command) (here p (top (act s i)) .inner) (f .spawned i l .barrier) (at-sound l u .ranged)
-      (no-breach p s i e))
+      (faultless p s i e .0))
       (λ e. fails _ refl)
 
 -- COUNTS

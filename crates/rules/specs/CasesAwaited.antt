@@ -106,6 +106,13 @@ waited =
       answers = 0 ∷ 0 ∷ 0 ∷ 0 ∷ 16 ∷ 0 ∷ 16 ∷ 0 ∷ 16 ∷ 0 ∷ 16 ∷ 0 ∷ 0 ∷ [];
       awaited = 0 ∷ 0 ∷ 0 ∷ 0 ∷ 2 ∷ 0 ∷ 3 ∷ 0 ∷ 2 ∷ 0 ∷ 1 ∷ 0 ∷ 0 ∷ [];
     }
+    -- A faulted one inside is not counted: two children, of whom the first faults; then nobody is waited for, and the fault is passed on.
+    ∷ record {
+      table = 0x04 ∷ 0x06 ∷ 0x01 ∷ 0x00 ∷ 0x05 ∷ 0x02 ∷ 0x00 ∷ 0x05 ∷ 0x03 ∷ 0x00 ∷ 0x00 ∷ 0x03 ∷ 0x00 ∷ 0x00 ∷ 0x00 ∷ [];
+      order = 0 ∷ 0 ∷ 0 ∷ 0 ∷ 1 ∷ 0 ∷ 2 ∷ 0 ∷ [];
+      answers = 0 ∷ 0 ∷ 0 ∷ 16 ∷ 101 ∷ 16 ∷ 0 ∷ 108 ∷ [];
+      awaited = 0 ∷ 0 ∷ 0 ∷ 2 ∷ 0 ∷ 1 ∷ 0 ∷ 0 ∷ [];
+    }
     -- "or the descendants not ended": READ, RESET.
     ∷ owned 0x0A
     ∷ owned 0x0B

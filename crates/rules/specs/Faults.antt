@@ -1,4 +1,4 @@
--- Faults: the number of the first that a command breaches, 0 for none; and the one that a finish passes on.
+-- Faults: the number of the first rule that a command breaches, 0 for none; and whether a finish passes a fault on.
 use Prim.Native.Nat.{ℕ, _-_, _/_, _%_, _^_}
 use mathlib.Core.Bool.{Bool, cond, _&&_, not}
 use lib.Dec.{ltb, eqb}
