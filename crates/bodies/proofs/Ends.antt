@@ -30,7 +30,7 @@ use Rattle.moves.specs.Exceeding.{overfull}
 use Rattle.places.proofs.Places.{next-is, next-small}
 use Rattle.fields.specs.Lent.{Lent, ReadsAct, WritesAct, withAct, withSteps, withFrame, withDepth, onward}
 use Rattle.moves.specs.Moves.{Standing, Turned, Counts, GoesOn}
-use Rattle.bodies.specs.Pops.{lower, Pops}
+use Rattle.bodies.specs.Pops.{lower, Pops, rerun, Reruns}
 use Rattle.moves.proofs.Withs.{act-with, with-with, steps-with, then}
 use Rattle.moves.proofs.Standings.{spawned, few, fault-at, plain, calm, steps-room, shallow, done-alone}
 
@@ -47,6 +47,10 @@ pop-done {i = i} {d = d} q f g k =
           let o = k .goes _ m j (rw (steps-with s i x) room) (rw n (omega arith)) (rw n (omega arith)) (rw n fits) in
           rw (n, with-with, steps-with s i x) at o;
     }
+
+pub again-done : {b b₁ b₂ : List ℕ} {i at r : ℕ} {f : Frame} → (at < 16 → WritesAct (λ (a : Activity). withFrame a at (rerun f)) b b₁ i) → Counts b₁ b₂ r → Reruns f b b₂ i at r
+unfolding withAct
+again-done put g = record { number = g .number; reruns = λ s l j h room. g .counts _ (put h .writes s l j) room }
 
 -- the bytes of what runs a body
 size-of : {made : ℕ} {o : Command} {f : Frame} → Ran made o f → width o + 2 * held o ≡ cond (isFinish o) 2 3
@@ -91,14 +95,12 @@ module _ {t starts b : List ℕ} {s : State} {i work d : ℕ} (k : Known t start
     upper : f ≡ top (act s i)
     upper = read low .reads s l (few w) ∙ rw depth
 
-    pub reran : {b₁ b₂ : List ℕ} {r : ℕ} → 1 < f .runs
-        → (d - 1 < 16 → WritesAct (λ (a : Activity). withFrame a (d - 1) (record { offset = 0; body = f .body; runs = f .runs - 1; first = f .first })) b b₁ i) → Counts b₁ b₂ r
-        → Turned (programOf t) s i b₂ r
-    unfolding endOf again withAct
-    reran m put g =
+    pub reran : {b₁ : List ℕ} {r : ℕ} → 1 < f .runs → Reruns f b b₁ i (d - 1) r → Turned (programOf t) s i b₁ r
+    unfolding endOf again
+    reran m g =
         let e = depth in
         let q : endOf (programOf t) (act s i) ≡ again (act s i) = rw (lt-leb (act s i .depth) 1 (omega arith), lt-ltb 1 (top (act s i) .runs) (rw (← upper) m)) in
-        after (again (act s i)) q (g .counts _ (rw (depth, upper) at (put low .writes s l (few w))) (steps-room w left)) (g .number) refl
+        after (again (act s i)) q (rw (depth, upper) at (g .reruns s l (few w) low (steps-room w left))) (g .number) refl
 
     -- what stands below
     module _ {g : Frame} (look : d - 1 - 1 < 16 → ReadsAct (λ (a : Activity). frame a (d - 1 - 1)) b i g) where

@@ -1,4 +1,4 @@
--- A body that is left, and END.
+-- A body that is left or runs again, and END.
 use Prim.Native.Nat.{ℕ, _+_, _-_, _^_, _≤_, _<_}
 use mathlib.Core.Path.{_≡_}
 use mathlib.Core.List.{List}
@@ -6,13 +6,14 @@ use lib.ListN.{set}
 use mathlib.Core.Bool.{Bool}
 use Rattle.program.specs.Bodies.{programOf}
 use Rattle.program.specs.declared.command.Command.the-variants.{End}
+use Rattle.rules.specs.declared.state.Frame.{Frame}
 use Rattle.rules.specs.declared.state.Activity.{Activity}
 use Rattle.rules.specs.declared.state.State.{State}
 use Rattle.rules.specs.State.{noFrame, act, top}
 use Rattle.rules.specs.Faults.{spoilt}
 use Rattle.rules.specs.Effects.{withFrames, withTop}
 use Rattle.places.specs.Known.{Known}
-use Rattle.fields.specs.Lent.{Lent, withAct, withSteps, onward}
+use Rattle.fields.specs.Lent.{Lent, withAct, withSteps, withFrame, onward}
 use Rattle.moves.specs.Moves.{Standing, Turned}
 
 -- an activity without its top body
@@ -24,6 +25,15 @@ pub record Pops (b c : List ℕ) (i depth size r : ℕ) : Type 0 where
   pub number : r ≡ 0
   pub pops : (s : State) → Lent b s → i < 64 → s .steps < 65535 → depth ≡ act s i .depth → 1 < depth → depth ≤ 16 → top (lower (act s i)) .offset + size < 2 ^ 16
       → Lent c (withSteps (withAct s i (withTop (lower (act s i)) (onward (top (lower (act s i))) (top (lower (act s i)) .offset + size)))) (s .steps + 1))
+
+-- A body that runs again: its place is its first command, and one run less is left.
+abbrev pub rerun : Frame → Frame
+rerun f = record { offset = 0; body = f .body; runs = f .runs - 1; first = f .first }
+
+-- Body `at` of activity i runs again, and one step more is counted.
+pub record Reruns (f : Frame) (b c : List ℕ) (i at r : ℕ) : Type 0 where
+  pub number : r ≡ 0
+  pub reruns : (s : State) → Lent b s → i < 64 → at < 16 → s .steps < 65535 → Lent c (withSteps (withAct s i (withFrame (act s i) at (rerun f))) (s .steps + 1))
 
 -- END, told whether one inside the FINISH body that ends has faulted.
 pub record Ends (t starts : List ℕ) (faulted : Bool) (b c : List ℕ) (work i r : ℕ) : Type 0 where

@@ -1,5 +1,6 @@
 // END.
-ghost use Rattle.bodies.specs.Pops.{Pops, Ends};
+ghost use Prim.Native.Nat.{_<_};
+ghost use Rattle.bodies.specs.Pops.{Pops, Reruns, Ends};
 use fields::activities::depth_at;
 use fields::activities::put_depth;
 use fields::frames::frame_at;
@@ -28,6 +29,25 @@ fn pop(state: &mut [u8], i: usize, depth: u8, size: u16) -> u8
     go_on(state, i, size)
 }
 
+// The body runs again from its first command, with one run less left.
+fn again(state: &mut [u8], i: usize, at: usize, f: Frame) -> u8
+    requires { ⌜ 1 < f .runs ⌝ }
+    ensures { λ r. ⌜ Reruns f (now (state .entry)) (now (state .exit)) i at r ⌝ }
+{
+    let runs = f.runs - 1;
+    put_frame(
+        state,
+        i,
+        at,
+        Frame {
+            offset: 0,
+            runs,
+            ..f
+        },
+    );
+    counted(state)
+}
+
 // END: of the lowest body it ends the activity; a body with runs left runs again; any other is left, and FINISH is 2 bytes, REPEAT 3. Where one inside the FINISH body
 // that ends has faulted, the fault is passed on.
 pub fn end(
@@ -54,18 +74,7 @@ pub fn end(
     let at = depth as usize - 1;
     let f = frame_at(state, i, at);
     if 1 < f.runs {
-        let runs = f.runs - 1;
-        put_frame(
-            state,
-            i,
-            at,
-            Frame {
-                offset: 0,
-                runs,
-                ..f
-            },
-        );
-        return counted(state);
+        return again(state, i, at, f);
     }
     let below = frame_at(state, i, at - 1);
     if is_finish(table, starts, below) {

@@ -30,7 +30,7 @@ use Rattle.rules.proofs.StepLaws.{Outcome, unfits, refuses, overflows, 
 pub unended-faultless : (t : Status) → isEnded t ≡ false → isFaulted t ≡ false
 unended-faultless Running e = refl
 unended-faultless AtBarrier e = refl
-unended-faultless Ended e = refl
+unended-faultless Ended e = absurd (true-false true refl e)
 unended-faultless (Faulted f) e = absurd (true-false true refl e)
 
 -- Ended, and not by a fault.

@@ -31,8 +31,7 @@ returns-3 c =
 returns-4 : tie.Need-returns-4
 returns-4 c =
     let n = c .before .before in
-    let h = n .before .before .before .before in
-    let m = h .before .before .before in
+    let m = n .before .before in
     let f = m .before .before in
     let o = f .before .before in
     let d = o .before in
@@ -41,7 +40,7 @@ returns-4 c =
       turns =
           λ k s l w q.
           reran k l w (sym (e .if2 .left) ∙ e .before .is-spent .ensures .reads s l) (d .depth-at .ensures) (sym q ∙ e .before .before .before .if1 .left) (o .if3 .left) (f .frame-at .ensures)
-          (m .if4 .taken) (h .put-frame .ensures) (n .counted2 .ensures);
+          (m .if4 .taken) (n .again .ensures);
     }
 
 returns-5 : tie.Need-returns-5
@@ -86,7 +85,6 @@ end-spec =
     (tie.spec (λ fail-requires κs. search needs) (λ same-length. search needs) returns (λ is-spent-requires κs. search needs)
     (λ same-length-2. search needs) returns-2 (λ depth-at-requires κs. search needs) (λ stop-requires κs. search needs)
     (λ counted-requires κs. search needs) (λ same-length-3. search needs) returns-3 (λ cast-at. search needs) (λ sub-at. search needs)
-    (λ frame-at-requires κs. search needs) (λ sub-runs. search needs) (λ put-frame-requires κs. search needs) (λ counted-requires-2 κs. search needs)
-    (λ same-length-4. search needs) returns-4 (λ sub-frame-at. search needs) (λ frame-at-requires-2 κs. search needs)
-    (λ is-finish-requires κs. search needs) (λ pop-requires κs. search needs) (λ same-length-5. search needs) returns-5
-    (λ pop-requires-2 κs. search needs) (λ same-length-6. search needs) returns-6)
+    (λ frame-at-requires κs. search needs) (λ again-requires κs. search needs) (λ same-length-4. search needs) returns-4
+    (λ sub-frame-at. search needs) (λ frame-at-requires-2 κs. search needs) (λ is-finish-requires κs. search needs) (λ pop-requires κs. search needs)
+    (λ same-length-5. search needs) returns-5 (λ pop-requires-2 κs. search needs) (λ same-length-6. search needs) returns-6)
