@@ -9,7 +9,7 @@ const BREACH: [u8; 2] = [0x03, 0];
 /// The turns at the END.
 const TURNS: usize = 20_000;
 
-/// Main spawns sixty-three inside its finish; the first so many take so many steps each, the last stays before this command; then main's turns.
+/// Main spawns sixty-three inside its finish, each before this command; the first so many take so many steps each; then main's turns.
 fn job(command: &[u8], over: u8, steps: usize) -> Job {
     let mut table = vec![4, 0x06, 1, 0, 0x07, 63, 2, 0, 0x05, 3, 0, 0];
     table.extend(command);

@@ -73,6 +73,7 @@ module _ {p : Program} {s : State} {i work : ℕ} {c : Command} (w : Standing p 
       go (inl e) = absurd (n (ap opcode (sym (w .stands)) ∙ own .barrier e))
       go (inr e) = e
 
+  -- The fault, by the command.
   pub fault-at : fault p s i ≡ cond (spoilt p s i (act s i) c) 8 (faultFor p (envOf s) i (act s i) c)
   unfolding fault breach
   fault-at = rw (w .stands)

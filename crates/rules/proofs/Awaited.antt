@@ -42,7 +42,7 @@ module _ (p : Program) (s : State) (i : ℕ) where
   pub record Waiting : Type 0 where
     pub spawned : i < s .activities
     pub unended : ended s i ≡ false
-    pub faultless : breach p s i ≡ 0
+    pub no-breach : breach p s i ≡ 0
     pub some : waitsAt p s i (act s i) on ≡ true
 
   pub waiting-parts : waits p s i ≡ true → Waiting
@@ -52,7 +52,7 @@ module _ (p : Program) (s : State) (i : ℕ) where
       let r = and-true (not (ended s i)) _ (q .1) in
       let l = ltb-true i (s .activities) (q .0) in
       let u = not-true (ended s i) (r .0) in
-      record { spawned = l; unended = u; faultless = eqb-true (breach p s i) 0 (r .1); some = and-true (eqb (breach p s i) 0) _ (sym (waits-live l u) ∙ e) .1 }
+      record { spawned = l; unended = u; no-breach = eqb-true (breach p s i) 0 (r .1); some = and-true (eqb (breach p s i) 0) _ (sym (waits-live l u) ∙ e) .1 }
     where
       guarded : (b : Bool) (n : ℕ) → ltb 0 (cond b n 0) ≡ true → b ≡ true
       guarded true n h = refl

@@ -47,27 +47,27 @@ read-same s s′ x a n h = go (decide (unbound a n))
     go (inl u) = rw u
     go (inr u) = rw (h u)
 
--- where the accumulators that are bound have the same owners, the same fault is met
-fault-same : (p : Program) (s s′ : State) (x : ℕ) (a : Activity) → ((n : ℕ) → n < 8 → unbound a n ≡ false → accumulator s′ (numberUnder a n) .owner ≡ accumulator s (numberUnder a n) .owner)
+-- where the accumulators that are bound have the same owners, the same rule is breached
+breach-same : (p : Program) (s s′ : State) (x : ℕ) (a : Activity) → ((n : ℕ) → n < 8 → unbound a n ≡ false → accumulator s′ (numberUnder a n) .owner ≡ accumulator s (numberUnder a n) .owner)
     → (o : Command) → Ranged o → faultFor p (envOf s′) x a o ≡ faultFor p (envOf s) x a o
 unfolding faultFor
-fault-same p s s′ x a h End r = refl
-fault-same p s s′ x a h Next r = refl
-fault-same p s s′ x a h (Clock c) r = refl
-fault-same p s s′ x a h (Resume c) r = refl
-fault-same p s s′ x a h (Drop c) r = refl
-fault-same p s s′ x a h (Async b m) r = refl
-fault-same p s s′ x a h (Finish b) r = refl
-fault-same p s s′ x a h (Repeat n b) r = refl
-fault-same p s s′ x a h (Acc n o) r = refl
-fault-same p s s′ x a h (Offer n) r = refl
-fault-same p s s′ x a h (Read n) r = read-same s s′ x a n (h n (within (Read n) r))
-fault-same p s s′ x a h (Reset n) r = read-same s s′ x a n (h n (within (Reset n) r))
-fault-same p s s′ x a h (Put v) r = refl
-fault-same p s s′ x a h (Fetch d) r = refl
-fault-same p s s′ x a h (Store d) r = refl
-fault-same p s s′ x a h (Add d) r = refl
-fault-same p s s′ x a h (Atom k) r = refl
+breach-same p s s′ x a h End r = refl
+breach-same p s s′ x a h Next r = refl
+breach-same p s s′ x a h (Clock c) r = refl
+breach-same p s s′ x a h (Resume c) r = refl
+breach-same p s s′ x a h (Drop c) r = refl
+breach-same p s s′ x a h (Async b m) r = refl
+breach-same p s s′ x a h (Finish b) r = refl
+breach-same p s s′ x a h (Repeat n b) r = refl
+breach-same p s s′ x a h (Acc n o) r = refl
+breach-same p s s′ x a h (Offer n) r = refl
+breach-same p s s′ x a h (Read n) r = read-same s s′ x a n (h n (within (Read n) r))
+breach-same p s s′ x a h (Reset n) r = read-same s s′ x a n (h n (within (Reset n) r))
+breach-same p s s′ x a h (Put v) r = refl
+breach-same p s s′ x a h (Fetch d) r = refl
+breach-same p s s′ x a h (Store d) r = refl
+breach-same p s s′ x a h (Add d) r = refl
+breach-same p s s′ x a h (Atom k) r = refl
 
 -- WAITING
 
@@ -160,7 +160,7 @@ module _ (l : Limits) {p : Program} (ok : Accepted p) {s : State} (f : Facts (l 
     -- it breaches the same rule or none
     pub same-breach : faultFor p (envOf (after p s i)) x (act s x) (here p (top (act s x)) .command) ≡ faultFor p (envOf s) x (act s x) (here p (top (act s x)) .command)
     same-breach =
-        fault-same p s (after p s i) x (act s x)
+        breach-same p s (after p s i) x (act s x)
         (λ n h e. owner-old s (effect p s i) (shape-of .naming) (numberUnder (act s x) n) (omega (arith, facts-x .bounds n h, eqb-false (bound (act s x) n) 0 e)))
         (here p (top (act s x)) .command) (at-sound ok f x (u .spawned) (u .unended) .ranged)
 

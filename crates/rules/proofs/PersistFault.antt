@@ -36,7 +36,7 @@ module _ (l : Limits) {p : Program} (ok : Accepted p) {s : State} (f : Facts (l 
 
   -- it stands on the END of a FINISH body
   module _ (end : isEnd (at p s x .command) ≡ true) (closing : inFinishBody p (act s x) ≡ true) where
-    -- the one who steps is not inside, nor is one whom it spawns
+    -- the one who steps is not inside
     stays-out : inside s x first i ≡ true → ⊥
     stays-out j = true-false (ended s i) (inside-ended p s x u end closing i (t .spawned) j) (t .unended)
 

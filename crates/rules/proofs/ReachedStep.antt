@@ -25,7 +25,7 @@ use Rattle.rules.specs.Steps.{at, refusal, effect, breach, fault}
 use Rattle.rules.proofs.Tests.{and-true, true-false}
 use Rattle.rules.proofs.Sums.{sumBelow-at, upd, upd-other, upd-same}
 use Rattle.rules.proofs.Sized.{SizedActivity}
-use Rattle.rules.proofs.Shapes.{meets, isNext, Counts, counts, OfChild, Kind, ends, forks, opens, loops, moves, kind, faulty}
+use Rattle.rules.proofs.Shapes.{meets, isNext, Counts, counts, OfChild, Kind, ends, forks, opens, loops, moves, kind, breaching}
 use Rattle.rules.proofs.Applied.{each, Fits, activities-applied, clocks-applied, accumulators-applied, steps-applied}
 use Rattle.rules.proofs.Holders.{turned, turned-none}
 use Rattle.rules.proofs.VirtualTime.{Fine, later, fine-self, fine-born, later-slow, fine-stopped}
@@ -204,14 +204,14 @@ module _ (p : Program) (ok : Accepted p) (few : activitiesOf p ≤ 64) (s : Stat
       let z = pend-ended own p late (failed p s i .self) refl in
       omega arith
 
-  -- The command and an END at least are never done.
+  -- The command and one more at least are never done.
   pub failed-work : (fault p s i ≡ 0 → ⊥) → total ownWork p 1 (applied s i (failed p s i)) + 2 ≤ total ownWork p 1 s
   unfolding at breach spoilt inFinishBody
   failed-work f = let x = failed-total ownWork 1 in let y = lost (fault-ways p s i f) in omega arith
     where
       lost : (breach p s i ≡ 0 → ⊥) ⊎ (spoilt p s i (act s i) (at p s i .command) ≡ true) → 2 ≤ pend ownWork p 1 (act s i)
       lost (inl b) =
-          let q = faulty b its in
+          let q = breaching b its in
           fault-pend p ok s i (act s i) (g .inv .stacks i h r) r (g .inv .meets i h) (at p s i .command) refl ownWork 1 work-some (q .0) (q .1)
       lost (inr e) =
           let q = and-true (isEnd (at p s i .command)) _ e in

@@ -192,16 +192,16 @@ module _ {p : Program} {e : Env} {i : ℕ} {a : Activity} {c : Command} {x : Eff
   born P f (moves b g h t k s n) = rw n tt
 
   -- Whoever breaches a rule stands neither on END nor on NEXT.
-  pub faulty : (faultFor p e i a c ≡ 0 → ⊥) → Kind p e i a c x → (isEnd c ≡ false) × (isNext c ≡ false)
+  pub breaching : (faultFor p e i a c ≡ 0 → ⊥) → Kind p e i a c x → (isEnd c ≡ false) × (isNext c ≡ false)
   unfolding faultFor isEnd isNext
-  faulty f (ends q s n) = absurd (f (rw q))
-  faulty f (meets q s n) = absurd (f (rw q))
-  faulty f (forks b m q s n) = (rw q, rw q)
-  faulty f (opens b q s n) = (rw q, rw q)
-  faulty f (loops k b q s n) = (rw q, rw q)
-  faulty f (moves b g h t k s n) = (g, h)
+  breaching f (ends q s n) = absurd (f (rw q))
+  breaching f (meets q s n) = absurd (f (rw q))
+  breaching f (forks b m q s n) = (rw q, rw q)
+  breaching f (opens b q s n) = (rw q, rw q)
+  breaching f (loops k b q s n) = (rw q, rw q)
+  breaching f (moves b g h t k s n) = (g, h)
 
-  -- END is the command of its kind.
+  -- The command of which `isEnd` holds is END.
   pub is-end : Kind p e i a c x → isEnd c ≡ true → c ≡ End
   unfolding isEnd
   is-end (ends q s n) l = q

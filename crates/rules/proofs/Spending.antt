@@ -253,7 +253,7 @@ module _ (p : Program) (ok : Accepted p) (s : State) (i : ℕ) (a : Activity) (s
           let r : times c * tally own p (named c) ≡ 0 = rw t (zero-mul _) in
           rw (xs, n) (omega arith)
 
-      -- A fault leaves at least the command and an END undone.
+      -- A breach leaves at least the command and an END undone.
       pub fault-pend : ((c : Command) → 0 < own c) → isEnd c ≡ false → isNext c ≡ false → 2 ≤ Pend a
       unfolding past cost
       fault-pend w g n =
@@ -263,7 +263,7 @@ module _ (p : Program) (ok : Accepted p) (s : State) (i : ℕ) (a : Activity) (s
           let r = pend-running own p late (past p a) u b in
           omega (arith, w c, w (here p (top (past p a)) .command))
 
-      -- So does a fault at the END of a body above another: that END, and the next command below or of the next run.
+      -- A fault at the END of a body above another leaves at least that END and the next command, of the body below or of the next run.
       pub spoilt-pend : ((c : Command) → 0 < own c) → isEnd c ≡ true → 1 < a .depth → 2 ≤ Pend a
       unfolding endOf again popped past cost isEnd isNext
       spoilt-pend w l d =

@@ -99,7 +99,7 @@ reader-free e i a n f = go (unbound a n) (eqb (e .look (numberUnder a n) .owner)
     go false true false e = refl
     go false false z e = absurd (omega arith)
 
--- Who waits for x at a command that meets no fault.
+-- Who waits for x at a command that breaches no rule.
 waiting-for : (p : Program) (s : State) (i x : ℕ) → Bounded s → i < s .activities → x < s .activities → (c : Command) → faultFor p (envOf s) i (act s i) c ≡ 0
     → waitsFor p s i (act s i) c x ≡ true → Waits (view p s) i
 unfolding waitsFor faultFor
@@ -127,7 +127,7 @@ unfolding breach
 waiting p s i z l e =
     let q = waiting-parts p s i e in
     let w = someBelow-witness (s .activities) (waitsFor p s i (act s i) (at p s i .command)) (q .some) in
-    waiting-for p s i (w .at) z l (w .below) (at p s i .command) (q .faultless) (w .passes)
+    waiting-for p s i (w .at) z l (w .below) (at p s i .command) (q .no-breach) (w .passes)
 
 -- The invariants say what the argument asks of a view.
 sound : (p : Program) (s : State) (vt base : ℕ → ℕ) → Sane p s vt base → Sound (view p s) vt base

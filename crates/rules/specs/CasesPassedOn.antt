@@ -81,7 +81,7 @@ passedOn =
       answers = running ∷ running ∷ faulted F1 ∷ running ∷ running ∷ faulted F8 ∷ [];
       after = written 6 0 [] (activity (Faulted F8) 0 0 [] [] [] ∷ activity (Faulted F1) 0 0 [] [] [] ∷ []) [];
     }
-    -- The END of a REPEAT body tells nothing, in a FINISH body either: FINISH 1; body 1 REPEAT 2 2; body 2 ASYNC 3 0.
+    -- The END of a REPEAT body tells nothing, not even in a FINISH body: FINISH 1; body 1 REPEAT 2 2; body 2 ASYNC 3 0.
     ∷ record {
       table = 0x04 ∷ 0x06 ∷ 0x01 ∷ 0x00 ∷ 0x07 ∷ 0x02 ∷ 0x02 ∷ 0x00 ∷ 0x05 ∷ 0x03 ∷ 0x00 ∷ 0x00 ∷ 0x03 ∷ 0x00 ∷ 0x00 ∷ [];
       order = 0 ∷ 0 ∷ 0 ∷ 1 ∷ 0 ∷ 0 ∷ 0 ∷ 0 ∷ 2 ∷ 0 ∷ [];
@@ -94,6 +94,27 @@ passedOn =
       order = 0 ∷ 1 ∷ 2 ∷ 1 ∷ 0 ∷ [];
       answers = running ∷ running ∷ faulted F1 ∷ ended ∷ ended ∷ [];
       after = written 5 0 [] (activity Ended 0 0 [] [] [] ∷ activity Ended 0 0 [] [] [] ∷ activity (Faulted F1) 1 0 [] [] [] ∷ []) [];
+    }
+    -- RESET tells nothing either.
+    ∷ record {
+      table = 0x02 ∷ 0x08 ∷ 0x00 ∷ 0x00 ∷ 0x05 ∷ 0x01 ∷ 0x00 ∷ 0x0B ∷ 0x00 ∷ 0x00 ∷ 0x03 ∷ 0x00 ∷ 0x00 ∷ [];
+      order = 0 ∷ 0 ∷ 1 ∷ 0 ∷ 0 ∷ [];
+      answers = running ∷ running ∷ faulted F1 ∷ running ∷ ended ∷ [];
+      after = written 5 0 [] (activity Ended 0 0 [] [] (1 ∷ []) ∷ activity (Faulted F1) 0 0 [] [] (1 ∷ []) ∷ []) (holding 0 Sum 0 ∷ []);
+    }
+    -- An inner finish: FINISH 1; body 1 FINISH 2; body 2 ASYNC 3 0; body 3 RESUME 0. All three bodies of main go.
+    ∷ record {
+      table = 0x04 ∷ 0x06 ∷ 0x01 ∷ 0x00 ∷ 0x06 ∷ 0x02 ∷ 0x00 ∷ 0x05 ∷ 0x03 ∷ 0x00 ∷ 0x00 ∷ 0x03 ∷ 0x00 ∷ 0x00 ∷ [];
+      order = 0 ∷ 0 ∷ 0 ∷ 1 ∷ 0 ∷ 0 ∷ [];
+      answers = running ∷ running ∷ running ∷ faulted F1 ∷ faulted F8 ∷ Refused 15 ∷ [];
+      after = written 5 0 [] (activity (Faulted F8) 0 0 [] [] [] ∷ activity (Faulted F1) 0 0 [] [] [] ∷ []) [];
+    }
+    -- A finish in a REPEAT body: REPEAT 2 1; body 1 FINISH 2; body 2 ASYNC 3 0; body 3 RESUME 0. The second run never comes.
+    ∷ record {
+      table = 0x04 ∷ 0x07 ∷ 0x02 ∷ 0x01 ∷ 0x00 ∷ 0x06 ∷ 0x02 ∷ 0x00 ∷ 0x05 ∷ 0x03 ∷ 0x00 ∷ 0x00 ∷ 0x03 ∷ 0x00 ∷ 0x00 ∷ [];
+      order = 0 ∷ 0 ∷ 0 ∷ 1 ∷ 0 ∷ [];
+      answers = running ∷ running ∷ running ∷ faulted F1 ∷ faulted F8 ∷ [];
+      after = written 5 0 [] (activity (Faulted F8) 0 0 [] [] [] ∷ activity (Faulted F1) 0 0 [] [] [] ∷ []) [];
     }
     ∷ []
 
@@ -128,12 +149,12 @@ faultedLine main = change 63 (λ a. withSpawner 62 (stopped noActivity (Faulted 
 
 unfoldable pub handedOn : List Handed
 handedOn =
-    -- The owner is in the ready set, by a child that faulted with F7, or with F8.
+    -- The owner is in the ready set, and faults for a child that faulted with F7, or with F8.
     accepted finish (closing 0 (over (Faulted F7)) (over Ended)) 0 1 (faulted F8) (written 1 0 [] (over (Faulted F8) ∷ over (Faulted F7) ∷ over Ended ∷ []) [])
     ∷ accepted finish (closing 0 (over Ended) (over (Faulted F8))) 0 1 (faulted F8) (written 1 0 [] (over (Faulted F8) ∷ over Ended ∷ over (Faulted F8) ∷ []) [])
     -- It is not, while the other child runs.
     ∷ refused finish (closing 0 (over (Faulted F7)) (activity Running 0 0 (bottom 0 1 ∷ []) [] [])) 0 16 4
-    -- No step is left of the work; the last one.
+    -- 17 where no step is left of the work; F8 is the last that it counts.
     ∷ refused finish (closing 3 (over (Faulted F7)) (over Ended)) 0 17 1
     ∷ accepted finish (closing 2 (over (Faulted F7)) (over Ended)) 0 1 (faulted F8) (written 3 0 [] (over (Faulted F8) ∷ over (Faulted F7) ∷ over Ended ∷ []) [])
     -- The last of sixty-three alone; it is not inside where the first was spawned before the finish.

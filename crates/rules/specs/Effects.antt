@@ -263,7 +263,7 @@ effectOf p e i a (Store d) inner = touching p a (touch (e .cell) (untouched a) (
 effectOf p e i a (Add d) inner = touching p a (touch (e .cell) (untouched a) (Add d))
 effectOf p e i a (Atom k) inner = touching p a (touchAll (e .cell) (untouched a) inner)
 
--- "A fault ends the activity in that step, drops its clocks, changes nothing else but the steps taken and tells no other activity."
+-- "A fault ends the activity in that step, drops its clocks, changes nothing else but the steps taken"
 abbrev pub failing : Activity → Status → Effect
 failing a status = alone (stopped a status)
 

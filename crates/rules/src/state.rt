@@ -1,6 +1,6 @@
 // The state, by value: wide fields first, so that nothing is padded where it can be helped.
 
-// A breach, by its number in document 01; F8, a fault that a finish passes on, is document 02's.
+// A fault: a breach, by its number in document 01, or F8, document 02's, of an owner to whom a finish passes a fault on.
 pub enum Fault {
     F1,
     F2,

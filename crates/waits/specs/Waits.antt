@@ -81,7 +81,7 @@ pub record Sees (b : List ℕ) (w first : ℕ) (r : Inside) : Type 0 where
 
 -- AT A COMMAND
 
--- Activity i, which has a stack, waits at END for so many, and whether F8 is due where it may go on.
+-- For how many activity i, which has a stack, waits at END, and whether F8 is due there once it may go on.
 pub record EndSees (t starts b : List ℕ) (i : ℕ) (r : Inside) : Type 0 where
   pub tells : (s : State) → Lent b s → i < 64 → Placed t starts s (act s i) → r .unended ≡ awaitedAt (programOf t) s i (act s i) End
   pub spoils : (s : State) → Lent b s → i < 64 → Placed t starts s (act s i) → r .faulted ≡ spoilt (programOf t) s i (act s i) End

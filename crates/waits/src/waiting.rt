@@ -1,4 +1,4 @@
-// How many activities one waits for at the command that it stands on. Faults come before waiting.
+// How many activities one waits for at the command that it stands on. A breach comes before waiting; at END it is told too whether one inside has faulted.
 ghost use Prim.Native.Nat.{_<_};
 ghost use Rattle.waits.specs.Waits.{EndSees, NextAwaits, OwnAwaits, Awaits};
 use super::behind::count_behind;
