@@ -9,7 +9,7 @@ use lib.ListN.{length, getD, take, drop, length-drop, drop-of-length-le}
 use lib.Seq.{take-all, drop-cons}
 use borrow.Author.Tests.{le-leb, lt-leb, lt-ltb, le-ltb}
 use Rattle.program.specs.Command.{Operand, clockName, accumulatorName, operatorCode, mask, bodyNumber, runCount, commandCount, cellNumber, valueByte, inside, rows, rowAt, widthAt, commandOf}
-use Rattle.program.specs.Inner.Coding.{Fitting}
+use Rattle.program.specs.Inner.Coding.{commands, Fitting}
 use Rattle.program.specs.Reading.{allInside, read, bare}
 use Rattle.program.specs.declared.command.Command.{Command}
 use Rattle.program.specs.declared.command.Command.the-variants.{End}
@@ -80,11 +80,11 @@ all-free (kind ∷ kinds) e (x ∷ s) =
 abbrev ranged : List ℕ
 ranged = 16 ∷ 15 ∷ 14 ∷ 13 ∷ 11 ∷ 10 ∷ 9 ∷ 8 ∷ 4 ∷ 3 ∷ 2 ∷ []
 
-pub free-fits : (op : ℕ) {x y : ℕ} → op < 17 → Missed op ranged → Fitting op x y true
+pub free-fits : (op : ℕ) {x y : ℕ} → op < commands → Missed op ranged → Fitting op x y true
 unfolding rowAt rows
 free-fits op few h s first second room =
     let all : (isIn op ranged || allFree (rowAt op .operands)) ≡ true =
-    each-op (λ (k : ℕ). (isIn k ranged || allFree (rowAt k .operands)) ≡ true) refl refl refl refl refl refl refl refl refl refl refl refl refl refl refl refl refl op few in
+    each-op (λ (k : ℕ). (isIn k ranged || allFree (rowAt k .operands)) ≡ true) refl refl refl refl refl refl refl refl refl refl refl refl refl refl refl refl refl refl op few in
     all-free (rowAt op .operands) (rw (missed op ranged h) at all) s
 
 -- WHAT A READING IS
@@ -97,7 +97,7 @@ read-empty (x ∷ s) h = absurd (let y : ⊥ = omega arith in y)
 -- The tests of a reading of some bytes.
 abbrev tested : ℕ → List ℕ → Reading
 tested op s =
-    cond (leb 17 op) Unknown
+    cond (leb commands op) Unknown
     (cond (ltb (length s) (length (rowAt op .operands))) Cut
     (cond (allInside (rowAt op .operands) s) (Whole (commandOf op s) (length (rowAt op .operands) + 1)) Outside))
 
@@ -111,10 +111,10 @@ pub tail-part : (s : List ℕ) (k : ℕ) → take (length s - k) (drop k s) ≡ 
 tail-part s k = take-all (length s - k) (drop k s) (simp length-drop (omega arith))
 
 module _ (s : List ℕ) (op : ℕ) (some : length s ≡ 0 → ⊥) (first : op ≡ getD s 0 0) where
-  pub read-unknown : 17 ≤ op → Unknown ≡ read s
+  pub read-unknown : commands ≤ op → Unknown ≡ read s
   read-unknown h = sym (read-tested s some ∙ rw (← first, le-leb _ _ h))
 
-  module _ (size : ℕ) (known : op < 17) (wide : size ≡ widthAt op) where
+  module _ (size : ℕ) (known : op < commands) (wide : size ≡ widthAt op) where
     long : size ≡ length (rowAt op .operands) + 1
     unfolding widthAt
     long = wide
@@ -162,10 +162,10 @@ module _ (code : List ℕ) (offset : ℕ) where
     split : drop offset code ≡ getD code offset 0 ∷ drop (suc offset) code
     split = drop-cons code offset 0 more
 
-    pub bare-unknown : 17 ≤ getD code offset 0 → End ≡ bare (drop offset code)
+    pub bare-unknown : commands ≤ getD code offset 0 → End ≡ bare (drop offset code)
     unfolding bare rows
-    bare-unknown h = rw (split, le-leb 17 (getD code offset 0) h)
+    bare-unknown h = rw (split, le-leb commands (getD code offset 0) h)
 
-    pub bare-known : {op : ℕ} {c : Command} → op ≡ getD code offset 0 → op < 17 → c ≡ commandOf op (drop (suc offset) code) → c ≡ bare (drop offset code)
+    pub bare-known : {op : ℕ} {c : Command} → op ≡ getD code offset 0 → op < commands → c ≡ commandOf op (drop (suc offset) code) → c ≡ bare (drop offset code)
     unfolding bare rows
-    bare-known {op} e h q = rw (split, sym e, lt-leb 17 op h) q
+    bare-known {op} e h q = rw (split, sym e, lt-leb commands op h) q

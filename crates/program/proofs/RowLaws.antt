@@ -10,9 +10,9 @@ use borrow.Author.Tests.{leb-true, ne-eqb}
 use types.Run.{OneOf, miss}
 use denote.Enum.Declared.{tagOf}
 use Rattle.program.specs.Command.{Row, rows, rowAt, widthAt, opcode, rowOf, names, named, times, held}
-use Rattle.program.specs.Inner.Coding.{weight}
+use Rattle.program.specs.Inner.Coding.{commands, weight}
 use Rattle.program.specs.declared.command.Command.{Command}
-use Rattle.program.specs.declared.command.Command.the-variants.{End, Next, Clock, Resume, Drop, Async, Finish, Repeat, Acc, Offer, Read, Reset, Put, Fetch, Store, Add, Atom}
+use Rattle.program.specs.declared.command.Command.the-variants.{End, Next, Clock, Resume, Drop, Async, Finish, Repeat, Acc, Offer, Read, Reset, Put, Fetch, Store, Add, Atom, Choose}
 use Rattle.program.proofs.command.Command.{the-type}
 use Rattle.program.proofs.Basic.{and-true, true-false}
 use Rattle.program.proofs.ShapeReading.{each-op}
@@ -34,18 +34,18 @@ missed x (k ∷ ks) h = rw (ne-eqb x k (h .1)) (missed x ks (h .0))
 
 -- Where each command byte has its arm, there is none left.
 abbrev every : List ℕ
-every = 16 ∷ 15 ∷ 14 ∷ 13 ∷ 12 ∷ 11 ∷ 10 ∷ 9 ∷ 8 ∷ 7 ∷ 6 ∷ 5 ∷ 4 ∷ 3 ∷ 2 ∷ 1 ∷ 0 ∷ []
+every = 17 ∷ 16 ∷ 15 ∷ 14 ∷ 13 ∷ 12 ∷ 11 ∷ 10 ∷ 9 ∷ 8 ∷ 7 ∷ 6 ∷ 5 ∷ 4 ∷ 3 ∷ 2 ∷ 1 ∷ 0 ∷ []
 
-pub none-left : (op : ℕ) → op < 17 → Missed op every → ⊥
+pub none-left : (op : ℕ) → op < commands → Missed op every → ⊥
 none-left op few h =
-    true-false (isIn op every) (each-op (λ (x : ℕ). isIn x every ≡ true) refl refl refl refl refl refl refl refl refl refl refl refl refl refl refl refl refl op few) (missed op every h)
+    true-false (isIn op every) (each-op (λ (x : ℕ). isIn x every ≡ true) refl refl refl refl refl refl refl refl refl refl refl refl refl refl refl refl refl refl op few) (missed op every h)
 
--- The commands but ASYNC, FINISH and REPEAT, and those but ATOM.
+-- The commands but ASYNC, FINISH, REPEAT and CHOOSE, and those but ATOM.
 abbrev pub nameless : List ℕ
 nameless = 0 ∷ 1 ∷ 2 ∷ 3 ∷ 4 ∷ 8 ∷ 9 ∷ 10 ∷ 11 ∷ 12 ∷ 13 ∷ 14 ∷ 15 ∷ 16 ∷ []
 
 abbrev pub holdless : List ℕ
-holdless = 0 ∷ 1 ∷ 2 ∷ 3 ∷ 4 ∷ 5 ∷ 6 ∷ 7 ∷ 8 ∷ 9 ∷ 10 ∷ 11 ∷ 12 ∷ 13 ∷ 14 ∷ 15 ∷ []
+holdless = 0 ∷ 1 ∷ 2 ∷ 3 ∷ 4 ∷ 5 ∷ 6 ∷ 7 ∷ 8 ∷ 9 ∷ 10 ∷ 11 ∷ 12 ∷ 13 ∷ 14 ∷ 15 ∷ 17 ∷ []
 
 -- They name no body,
 pub names-none : (c : Command) → OneOf nameless (tagOf the-type c) → (false ≡ names c) × (0 ≡ named c) × (0 ≡ times c)
@@ -67,6 +67,7 @@ names-none (Fetch d) h = (refl, refl, refl)
 names-none (Store d) h = (refl, refl, refl)
 names-none (Add d) h = (refl, refl, refl)
 names-none (Atom k) h = (refl, refl, refl)
+names-none (Choose b) h = absurd (miss nameless 17 tt h)
 
 -- and hold no commands.
 pub held-none : (c : Command) → OneOf holdless (tagOf the-type c) → 0 ≡ held c
@@ -88,6 +89,7 @@ held-none (Fetch d) h = refl
 held-none (Store d) h = refl
 held-none (Add d) h = refl
 held-none (Atom k) h = absurd (miss holdless 16 tt h)
+held-none (Choose b) h = refl
 
 -- WIDTHS
 
@@ -109,7 +111,7 @@ width-few op =
     let h : length (rowAt op .operands) ≤ 4 = leb-true _ _ (each (λ (r : Row). leb (length (r .operands)) 4) rows (record { operands = []; work = 0; activities = 0; clocks = 0; accumulators = 0 }) refl refl op) in
     omega arith
 
-pub width-alone : (op : ℕ) → 17 ≤ op → widthAt op ≡ 1
+pub width-alone : (op : ℕ) → commands ≤ op → widthAt op ≡ 1
 unfolding widthAt rowAt rows
 width-alone op h = rw (List·getD-eq-default rows (record { operands = []; work = 0; activities = 0; clocks = 0; accumulators = 0 }) h)
 
@@ -122,9 +124,9 @@ weighed op = cond (eqb op 1) 2 1 ∷ cond (eqb op 5) 1 0 ∷ cond (eqb op 2) 1 0
 abbrev counts : Row → List ℕ
 counts r = r .work ∷ r .activities ∷ r .clocks ∷ r .accumulators ∷ []
 
-pub weight-is : (k : ℕ) (c : Command) {op : ℕ} → op ≡ opcode c → op < 17 → weight k c ≡ getD (weighed op) k 0
+pub weight-is : (k : ℕ) (c : Command) {op : ℕ} → op ≡ opcode c → op < commands → weight k c ≡ getD (weighed op) k 0
 unfolding weight rowOf rowAt rows
 weight-is k c {op} e few =
     ap (λ (x : ℕ). getD (counts (rowAt x)) k 0) (sym e)
     ∙ ap (λ (l : List ℕ). getD l k 0)
-    (each-op (λ (x : ℕ). counts (rowAt x) ≡ weighed x) refl refl refl refl refl refl refl refl refl refl refl refl refl refl refl refl refl op few)
+    (each-op (λ (x : ℕ). counts (rowAt x) ≡ weighed x) refl refl refl refl refl refl refl refl refl refl refl refl refl refl refl refl refl refl op few)

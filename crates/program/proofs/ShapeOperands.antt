@@ -5,16 +5,17 @@ use mathlib.Core.List.{List, [], _∷_, _++_}
 use mathlib.Core.Path.{_≡_, refl, ap, _∙_}
 use lib.ListN.{length, getD, take}
 use Rattle.program.specs.Command.{rows, rowAt, operandsOf, padded, commandOf}
+use Rattle.program.specs.Inner.Coding.{commands}
 use Rattle.program.proofs.Basic.{Bytes}
 use Rattle.program.proofs.ShapeReading.{firsts, each-op}
 
 -- A command looks only at the operands that its row has.
-pub looks : (x y z w : ℕ) (rest : List ℕ) (op : ℕ) → op < 17
+pub looks : (x y z w : ℕ) (rest : List ℕ) (op : ℕ) → op < commands
     → commandOf op (take (length (rowAt op .operands)) (x ∷ y ∷ z ∷ w ∷ []) ++ rest) ≡ commandOf op (x ∷ y ∷ z ∷ w ∷ [])
 unfolding rows rowAt commandOf
 looks x y z w rest op =
     each-op (λ (k : ℕ). commandOf k (take (length (rowAt k .operands)) (x ∷ y ∷ z ∷ w ∷ []) ++ rest) ≡ commandOf k (x ∷ y ∷ z ∷ w ∷ []))
-    refl refl refl refl refl refl refl refl refl refl refl refl refl refl refl refl refl op
+    refl refl refl refl refl refl refl refl refl refl refl refl refl refl refl refl refl refl op
 
 -- The four bytes of a value come back.
 low : (x u : ℕ) → x < 256 → (x + 256 * u) % 256 ≡ x
@@ -45,9 +46,9 @@ word-bytes x y z w hx hy hz hw =
 abbrev Back : List ℕ → ℕ → Type 0
 Back s op = take (length (rowAt op .operands)) (padded (operandsOf (commandOf op s))) ≡ firsts (rowAt op .operands) s 0
 
-pub back : (s : List ℕ) → Bytes s → (op : ℕ) → op < 17 → Back s op
+pub back : (s : List ℕ) → Bytes s → (op : ℕ) → op < commands → Back s op
 unfolding rows rowAt commandOf
 back s h op =
     each-op (Back s) refl refl refl refl refl refl refl refl refl refl refl refl
     (word-bytes (getD s 0 0) (getD s 1 0) (getD s 2 0) (getD s 3 0) (h 0) (h 1) (h 2) (h 3))
-    refl refl refl refl op
+    refl refl refl refl refl op

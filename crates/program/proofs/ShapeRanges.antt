@@ -6,7 +6,7 @@ use lib.Dec.{ltb, leb}
 use borrow.Author.Tests.{ltb-true, leb-true}
 use Rattle.program.specs.Command.{rows, rowAt, rowOf}
 use Rattle.program.specs.declared.command.Command.{Command}
-use Rattle.program.specs.declared.command.Command.the-variants.{End, Next, Clock, Resume, Drop, Async, Finish, Repeat, Acc, Offer, Read, Reset, Put, Fetch, Store, Add, Atom}
+use Rattle.program.specs.declared.command.Command.the-variants.{End, Next, Clock, Resume, Drop, Async, Finish, Repeat, Acc, Offer, Read, Reset, Put, Fetch, Store, Add, Atom, Choose}
 use Rattle.program.proofs.Basic.{and-true}
 use Rattle.program.proofs.Shape.{Ranged}
 
@@ -29,6 +29,7 @@ Within (Fetch d) = d < 16
 Within (Store d) = d < 16
 Within (Add d) = d < 16
 Within (Atom k) = (1 ≤ k) × (k ≤ 8)
+Within (Choose b) = Unit {0}
 
 -- One operand below a bound.
 one : (x n : ℕ) → ltb x n && true ≡ true → x < n
@@ -54,3 +55,4 @@ within (Fetch d) r = one d 16 r
 within (Store d) r = one d 16 r
 within (Add d) r = one d 16 r
 within (Atom k) r = let f = and-true (leb 1 k) (leb k 8) (and-true (leb 1 k && leb k 8) true r .0) in (leb-true 1 k (f .0), leb-true k 8 (f .1))
+within (Choose b) r = tt

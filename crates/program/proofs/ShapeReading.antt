@@ -9,6 +9,7 @@ use lib.Seq.{drop-cons, getD-drop}
 use lib.Dec.{leb, ltb}
 use borrow.Author.Tests.{leb-false, le-ltb, ltb-false}
 use Rattle.program.specs.Command.{Operand, inside, rows, rowAt, widthAt, opcode, operandsOf, commandOf, rowOf, width}
+use Rattle.program.specs.Inner.Coding.{commands}
 use Rattle.program.specs.Reading.{allInside, read}
 use Rattle.program.specs.declared.command.Command.{Command}
 use Rattle.program.specs.declared.reading.Reading.the-variants.{Whole, Unknown, Cut, Outside}
@@ -40,20 +41,20 @@ firsts-take [] s i h = refl
 firsts-take (kind ∷ kinds) s i h = rw (drop-cons s i 0 (omega arith), firsts-take kinds s (suc i) (omega arith))
 
 -- A fact of each command byte.
-pub each-op : (P : ℕ → Type 0) → P 0 → P 1 → P 2 → P 3 → P 4 → P 5 → P 6 → P 7 → P 8 → P 9 → P 10 → P 11 → P 12 → P 13 → P 14 → P 15 → P 16
-    → (op : ℕ) → op < 17 → P op
-each-op P p0 p1 p2 p3 p4 p5 p6 p7 p8 p9 p10 p11 p12 p13 p14 p15 p16 op =
-    let Q : ℕ → Type 0 = λ x. x < 17 → P x in
+pub each-op : (P : ℕ → Type 0) → P 0 → P 1 → P 2 → P 3 → P 4 → P 5 → P 6 → P 7 → P 8 → P 9 → P 10 → P 11 → P 12 → P 13 → P 14 → P 15 → P 16 → P 17
+    → (op : ℕ) → op < commands → P op
+each-op P p0 p1 p2 p3 p4 p5 p6 p7 p8 p9 p10 p11 p12 p13 p14 p15 p16 p17 op =
+    let Q : ℕ → Type 0 = λ x. x < commands → P x in
     each-from Q 0 (λ h. p0) (each-from Q 1 (λ h. p1) (each-from Q 2 (λ h. p2) (each-from Q 3 (λ h. p3) (each-from Q 4 (λ h. p4) (each-from Q 5 (λ h. p5)
     (each-from Q 6 (λ h. p6) (each-from Q 7 (λ h. p7) (each-from Q 8 (λ h. p8) (each-from Q 9 (λ h. p9) (each-from Q 10 (λ h. p10) (each-from Q 11 (λ h. p11)
     (each-from Q 12 (λ h. p12) (each-from Q 13 (λ h. p13) (each-from Q 14 (λ h. p14) (each-from Q 15 (λ h. p15) (each-from Q 16 (λ h. p16)
-    (λ n far h. absurd (let y : ⊥ = omega arith in y))))))))))))))))))
+    (each-from Q 17 (λ h. p17) (λ n far h. absurd (let y : ⊥ = omega arith in y)))))))))))))))))))
     op (omega arith)
 
 -- The command of a byte has this byte, and the operands that were read.
 Kept : List ℕ → ℕ → Type 0
 Kept s op =
-    op < 17 → allInside (rowAt op .operands) (firsts (rowAt op .operands) s 0) ≡ true
+    op < commands → allInside (rowAt op .operands) (firsts (rowAt op .operands) s 0) ≡ true
     → (opcode (commandOf op s) ≡ op) × (allInside (rowAt op .operands) (operandsOf (commandOf op s)) ≡ true)
 
 kept : (s : List ℕ) (op : ℕ) → Kept s op
@@ -61,7 +62,7 @@ unfolding Kept rows rowAt commandOf
 kept s op lt =
     each-op (λ (x : ℕ). allInside (rowAt x .operands) (firsts (rowAt x .operands) s 0) ≡ true → (opcode (commandOf x s) ≡ x) × (allInside (rowAt x .operands) (operandsOf (commandOf x s)) ≡ true))
     (λ e. (refl, e)) (λ e. (refl, e)) (λ e. (refl, e)) (λ e. (refl, e)) (λ e. (refl, e)) (λ e. (refl, e)) (λ e. (refl, e)) (λ e. (refl, e)) (λ e. (refl, e))
-    (λ e. (refl, e)) (λ e. (refl, e)) (λ e. (refl, e)) (λ e. (refl, e)) (λ e. (refl, e)) (λ e. (refl, e)) (λ e. (refl, e)) (λ e. (refl, e))
+    (λ e. (refl, e)) (λ e. (refl, e)) (λ e. (refl, e)) (λ e. (refl, e)) (λ e. (refl, e)) (λ e. (refl, e)) (λ e. (refl, e)) (λ e. (refl, e)) (λ e. (refl, e))
     op lt
 
 -- The tests of a reading that gave a command.
@@ -92,7 +93,7 @@ not-cut op s h e =
 
 -- A whole command that was read is that of its byte and of what follows, and as wide as its row says.
 pub record ReadAs (op : ℕ) (s : List ℕ) (c : Command) (size : ℕ) : Type 0 where
-  pub listed : op < 17
+  pub listed : op < commands
   pub same : commandOf op s ≡ c
   pub wide : widthAt op ≡ size
   pub byte : opcode c ≡ op
@@ -103,8 +104,8 @@ read-as op s {c} {size} h =
     let kinds = rowAt op .operands in
     let f = tests (leb (length rows) op) (ltb (length s) (length kinds)) (allInside kinds s) (commandOf op s) c (length kinds + 1) size h in
     let fits = ltb-false (length s) (length kinds) (f .whole) in
-    let k = kept s op (leb-false 17 op (f .known)) (firsts-inside kinds s 0 (omega arith) (f .good)) in
-    record { listed = leb-false 17 op (f .known); same = f .same; wide = f .long; byte = ap opcode (sym (f .same)) ∙ k .0 }
+    let k = kept s op (leb-false commands op (f .known)) (firsts-inside kinds s 0 (omega arith) (f .good)) in
+    record { listed = leb-false commands op (f .known); same = f .same; wide = f .long; byte = ap opcode (sym (f .same)) ∙ k .0 }
 
 -- A whole command that was read: its bytes are there and its operands are inside their ranges.
 pub known : (s : List ℕ) {c : Command} {size : ℕ} → read s ≡ Whole c size → Known s c size
@@ -114,7 +115,7 @@ known (op ∷ s) {c} {size} h =
     let kinds = rowAt op .operands in
     let f = tests (leb (length rows) op) (ltb (length s) (length kinds)) (allInside kinds s) (commandOf op s) c (length kinds + 1) size h in
     let fits = ltb-false (length s) (length kinds) (f .whole) in
-    let k = kept s op (leb-false 17 op (f .known)) (firsts-inside kinds s 0 (omega arith) (f .good)) in
+    let k = kept s op (leb-false commands op (f .known)) (firsts-inside kinds s 0 (omega arith) (f .good)) in
     let e : opcode c ≡ op = ap opcode (sym (f .same)) ∙ k .0 in
     record {
       some = let l = f .long in omega arith;

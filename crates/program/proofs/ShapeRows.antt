@@ -8,7 +8,7 @@ use borrow.Author.Tests.{eqb-true}
 use Rattle.program.specs.Command.{rows, rowAt, rowOf, width, names, named, times, held, isEnd, usesCell}
 use Rattle.program.specs.Count.{ownWork, ownActivities, ownClocks, ownAccumulators}
 use Rattle.program.specs.declared.command.Command.{Command}
-use Rattle.program.specs.declared.command.Command.the-variants.{End, Next, Clock, Resume, Drop, Async, Finish, Repeat, Acc, Offer, Read, Reset, Put, Fetch, Store, Add, Atom}
+use Rattle.program.specs.declared.command.Command.the-variants.{End, Next, Clock, Resume, Drop, Async, Finish, Repeat, Acc, Offer, Read, Reset, Put, Fetch, Store, Add, Atom, Choose}
 use Rattle.program.proofs.Basic.{and-true, implied, not-true}
 
 -- All that is asked of a command's row.
@@ -83,6 +83,7 @@ saying (Fetch d) = onCell
 saying (Store d) = onCell
 saying (Add d) = onCell
 saying (Atom k) = alone false false 2 k 1 0 0
+saying (Choose b) = running 2 b 1 0
 
 -- What the rows say.
 unfoldable pub saidOf : Command → Saying
@@ -128,6 +129,7 @@ each-said (Fetch d) = (refl, refl)
 each-said (Store d) = (refl, refl)
 each-said (Add d) = (refl, refl)
 each-said (Atom k) = (refl, refl)
+each-said (Choose b) = (refl, refl)
 
 -- The rows say that.
 pub said : (c : Command) → saidOf c ≡ saying c

@@ -1,11 +1,11 @@
--- The commands, as document 01 lists them under "The table": each is a row of one table.
+-- The commands, as document 01 lists them under "The table", and document 02's CHOOSE: each is a row of one table.
 use Prim.Native.Nat.{ℕ, _+_, _*_, _/_, _%_}
 use mathlib.Core.List.{List, [], _∷_}
 use mathlib.Core.Bool.{Bool, true, false, cond, _||_, _&&_}
 use lib.ListN.{length, getD}
 use lib.Dec.{ltb, leb, eqb}
 use Rattle.program.specs.declared.command.Command.{Command}
-use Rattle.program.specs.declared.command.Command.the-variants.{End, Next, Clock, Resume, Drop, Async, Finish, Repeat, Acc, Offer, Read, Reset, Put, Fetch, Store, Add, Atom}
+use Rattle.program.specs.declared.command.Command.the-variants.{End, Next, Clock, Resume, Drop, Async, Finish, Repeat, Acc, Offer, Read, Reset, Put, Fetch, Store, Add, Atom, Choose}
 
 -- "Operands: c, a clock name 0 to 7; a, an accumulator name 0 to 7; m, a mask byte whose bit i means clock name i; b, a body; n, 0 to 255;
 -- k, 1 to 8; d, a cell 0 to 15; v, four bytes, lowest first. All others are one byte." o is 0, 1 or 2. v is four operand bytes here.
@@ -36,7 +36,8 @@ abbrev row : List Operand → ℕ → ℕ → ℕ → ℕ → Row
 row operands work activities clocks accumulators = record { operands = operands; work = work; activities = activities; clocks = clocks; accumulators = accumulators }
 
 -- A row for each command byte from 00 on. "Work of a body: END 1; NEXT 2; FINISH and ASYNC 1 plus the work of b; REPEAT 1 plus n times that of b;
--- ATOM 1 together with its k commands; others 1. Activities (plus one for main), clocks and accumulators are counted likewise."
+-- ATOM 1 together with its k commands; others 1. Activities (plus one for main), clocks and accumulators are counted likewise." Of CHOOSE, document 02: "Its work is 1
+-- plus the work of b".
 unfoldable pub rows : List Row
 rows =
     row [] 1 0 0 0  -- 00 END
@@ -56,6 +57,7 @@ rows =
     ∷ row (cellNumber ∷ []) 1 0 0 0  -- 0E STORE d
     ∷ row (cellNumber ∷ []) 1 0 0 0  -- 0F ADD d
     ∷ row (commandCount ∷ []) 1 0 0 0  -- 10 ATOM k
+    ∷ row (bodyNumber ∷ []) 1 0 0 0  -- 11 CHOOSE b
     ∷ []
 
 -- The row of a command byte.
@@ -85,6 +87,7 @@ opcode (Fetch d) = 0x0D
 opcode (Store d) = 0x0E
 opcode (Add d) = 0x0F
 opcode (Atom k) = 0x10
+opcode (Choose b) = 0x11
 
 -- A command's operand bytes, in the order of the table.
 abbrev pub operandsOf : Command → List ℕ
@@ -105,6 +108,7 @@ operandsOf (Fetch d) = d ∷ []
 operandsOf (Store d) = d ∷ []
 operandsOf (Add d) = d ∷ []
 operandsOf (Atom k) = k ∷ []
+operandsOf (Choose b) = b ∷ []
 
 -- The first four of a list, 0 for those that it lacks.
 abbrev pub padded : List ℕ → List ℕ
@@ -137,6 +141,7 @@ commandOf op s =
     ∷ Store x
     ∷ Add x
     ∷ Atom x
+    ∷ Choose x
     ∷ [])
     op
     End
@@ -193,7 +198,7 @@ abbrev pub has : (Operand → Bool) → List Operand → Bool
 has test [] = false
 has test (kind ∷ kinds) = test kind || has test kinds
 
--- Whether a command names a body; which; and how often it runs it: FINISH and ASYNC once, REPEAT n times.
+-- Whether a command names a body; which; and how often the counts take it: FINISH, ASYNC and CHOOSE once, REPEAT n times.
 unfoldable pub names : Command → Bool
 names c = has isBody (rowOf c .operands)
 

@@ -16,7 +16,7 @@ allInside [] values = true
 allInside (kind ∷ kinds) [] = true
 allInside (kind ∷ kinds) (x ∷ values) = inside kind x && allInside kinds values
 
--- The number of a reading, 0 of a whole command. "3. The command byte is above 10. 4. Where no whole command can be read, the table is cut.
+-- The number of a reading, 0 of a whole command. "Number 3 now begins above 11". "4. Where no whole command can be read, the table is cut.
 -- 5. A c, a, o, d or k is outside its range."
 abbrev pub refusalOf : Reading → ℕ
 refusalOf (Whole c size) = 0

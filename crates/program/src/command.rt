@@ -3,6 +3,7 @@ ghost use mathlib.Core.Path.{_≡_};
 ghost use mathlib.Core.List.{[], _∷_};
 ghost use Prim.Native.Nat.{_<_, _%_, _/_};
 ghost use Rattle.program.specs.Command.{widthAt, opcode, operandsOf, padded, names, named, times, held, isEnd, usesCell};
+ghost use Rattle.program.specs.Inner.Coding.{commands};
 
 // A command with its operands as they stand in the table.
 pub enum Command {
@@ -23,6 +24,7 @@ pub enum Command {
     Store(u8),
     Add(u8),
     Atom(u8),
+    Choose(u8),
 }
 
 // A byte as a number of the machine's width.
@@ -34,7 +36,7 @@ pub fn wide(x: u8) -> usize
 
 // A command's byte.
 pub fn opcode(command: Command) -> usize
-    ensures { λ r. ⌜ (r ≡ opcode command) × (r < 17) ⌝ }
+    ensures { λ r. ⌜ (r ≡ opcode command) × (r < commands) ⌝ }
 {
     match command {
         Command::End => 0,
@@ -54,6 +56,7 @@ pub fn opcode(command: Command) -> usize
         Command::Store(_) => 14,
         Command::Add(_) => 15,
         Command::Atom(_) => 16,
+        Command::Choose(_) => 17,
     }
 }
 
@@ -91,6 +94,7 @@ pub fn operands(command: Command) -> [u8; 4]
         Command::Store(d) => [d, 0, 0, 0],
         Command::Add(d) => [d, 0, 0, 0],
         Command::Atom(k) => [k, 0, 0, 0],
+        Command::Choose(b) => [b, 0, 0, 0],
     }
 }
 
@@ -116,6 +120,7 @@ pub fn width_at(op: u8) -> usize
         14 => 2,
         15 => 2,
         16 => 2,
+        17 => 2,
         _ => 1,
     }
 }
@@ -128,6 +133,7 @@ pub(crate) fn names(command: Command) -> bool
         Command::Async(_, _) => true,
         Command::Finish(_) => true,
         Command::Repeat(_, _) => true,
+        Command::Choose(_) => true,
         _ => false,
     }
 }
@@ -140,6 +146,7 @@ pub fn named(command: Command) -> usize
         Command::Async(b, _) => wide(b),
         Command::Finish(b) => wide(b),
         Command::Repeat(_, b) => wide(b),
+        Command::Choose(b) => wide(b),
         _ => 0,
     }
 }
@@ -152,6 +159,7 @@ pub fn times(command: Command) -> usize
         Command::Async(_, _) => 1,
         Command::Finish(_) => 1,
         Command::Repeat(n, _) => wide(n),
+        Command::Choose(_) => 1,
         _ => 0,
     }
 }

@@ -3,7 +3,7 @@ ghost use mathlib.Core.Path.{_≡_};
 ghost use Prim.Native.Nat.{_<_};
 ghost use lib.ListN.{getD, drop};
 ghost use Rattle.program.specs.Command.{word};
-ghost use Rattle.program.specs.Inner.Coding.{Fitting, Made};
+ghost use Rattle.program.specs.Inner.Coding.{commands, Fitting, Made};
 ghost use Rattle.program.specs.Reading.{read, bare};
 use super::command::Command;
 use super::command::wide;
@@ -20,6 +20,9 @@ pub enum Reading {
     // An operand is outside its range: number 5.
     Outside,
 }
+
+// How many commands there are: their bytes are the numbers below it.
+const COMMANDS: usize = 18;
 
 // The byte of PUT.
 const PUT: usize = 12;
@@ -58,7 +61,7 @@ fn value_of(op: usize, code: &[u8]) -> u32
 
 // The command of a byte with operands x and y, or, of PUT, the value v.
 fn command_of(op: usize, x: u8, y: u8, v: u32) -> Command
-    requires { ⌜ op < 17 ⌝ }
+    requires { ⌜ op < commands ⌝ }
     ensures { λ r. ⌜ Made op x y v r ⌝ }
 {
     match op {
@@ -79,13 +82,14 @@ fn command_of(op: usize, x: u8, y: u8, v: u32) -> Command
         14 => Command::Store(x),
         15 => Command::Add(x),
         16 => Command::Atom(x),
+        17 => Command::Choose(x),
         _ => Command::End,
     }
 }
 
 // Whether the operands of a command byte, the first x and the second y, are inside their ranges.
 fn operands_fit(op: usize, x: u8, y: u8) -> bool
-    requires { ⌜ op < 17 ⌝ }
+    requires { ⌜ op < commands ⌝ }
     ensures { λ r. ⌜ Fitting op x y r ⌝ }
 {
     match op {
@@ -112,7 +116,7 @@ pub(crate) fn read(code: &[u8]) -> Reading
         return Reading::Cut;
     }
     let op = wide(code[0]);
-    if 17 <= op {
+    if COMMANDS <= op {
         return Reading::Unknown;
     }
     let size = width_at(code[0]);
@@ -141,7 +145,7 @@ pub fn known(code: &[u8], offset: usize) -> Command
         return Command::End;
     }
     let op = wide(code[offset]);
-    if 17 <= op {
+    if COMMANDS <= op {
         return Command::End;
     }
     let rest = &code[offset + 1..];

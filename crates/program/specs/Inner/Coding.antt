@@ -8,6 +8,10 @@ use Rattle.program.specs.Command.{rowAt, rowOf, word, commandOf}
 use Rattle.program.specs.Reading.{allInside}
 use Rattle.program.specs.declared.command.Command.{Command}
 
+-- How many commands there are: as many as rows. Their bytes are the numbers below it.
+abbrev pub commands : ℕ
+commands = 18
+
 -- Whether the operands of a command byte are inside their ranges, whatever list of enough bytes they stand at the start of, the first x and the second y.
 abbrev pub Fitting : ℕ → ℕ → ℕ → Bool → Type 0
 Fitting op x y r = (s : List ℕ) → getD s 0 0 ≡ x → getD s 1 0 ≡ y → length (rowAt op .operands) ≤ length s → r ≡ allInside (rowAt op .operands) s

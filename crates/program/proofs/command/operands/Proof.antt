@@ -54,6 +54,9 @@ returns-16 c = rw (c .before .command14 .given .1)
 returns-17 : tie.Need-returns-17
 returns-17 c = rw (c .before .command15 .given .1)
 
+returns-18 : tie.Need-returns-18
+returns-18 c = rw (c .before .command16 .given .1)
+
 pub operands-spec : {M : Type 1} → statement M
 operands-spec =
     tie.close
@@ -61,5 +64,5 @@ operands-spec =
     (λ enum-known-command-3. search needs) (λ enum-known-command-4. search needs) (λ enum-known-command-5. search needs) (λ enum-known-command-6. search needs)
     (λ enum-known-command-7. search needs) (λ enum-known-command-8. search needs) (λ enum-known-command-9. search needs) (λ enum-known-command-10. search needs)
     (λ enum-known-command-11. search needs) (λ bytes-of-requires κs. search needs) (λ enum-known-command-12. search needs)
-    (λ enum-known-command-13. search needs) (λ enum-known-command-14. search needs) (λ enum-known-command-15. search needs) returns returns-2 returns-3
-    returns-4 returns-5 returns-6 returns-7 returns-8 returns-9 returns-10 returns-11 returns-12 returns-13 returns-14 returns-15 returns-16 returns-17)
+    (λ enum-known-command-13. search needs) (λ enum-known-command-14. search needs) (λ enum-known-command-15. search needs) (λ enum-known-command-16. search needs) returns returns-2 returns-3
+    returns-4 returns-5 returns-6 returns-7 returns-8 returns-9 returns-10 returns-11 returns-12 returns-13 returns-14 returns-15 returns-16 returns-17 returns-18)

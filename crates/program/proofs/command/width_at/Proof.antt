@@ -4,6 +4,7 @@ use Prim.Native.Nat.{_≤_}
 use native.Mathlib.Omega.{arith}
 use native.Mathlib.Decide.{decLe}
 use Rattle.program.specs.Command.{rows, rowAt, widthAt}
+use Rattle.program.specs.Inner.Coding.{commands}
 use Rattle.program.proofs.RowLaws.{none-left, width-alone}
 use Rattle.program.proofs.command.width_at.Statement.{statement}
 use Rattle.program.proofs.command.width_at.Tie as tie
@@ -77,11 +78,15 @@ unfolding rows rowAt widthAt
 returns-17 c = rw (c .match .keys17)
 
 returns-18 : tie.Need-returns-18
-returns-18 c = sym (width-alone (c .before .args .op) (by (decLe 17 (c .before .args .op))))
+unfolding rows rowAt widthAt
+returns-18 c = rw (c .match .keys18)
+
+returns-19 : tie.Need-returns-19
+returns-19 c = sym (width-alone (c .before .args .op) (by (decLe commands (c .before .args .op))))
   where
-    by : Dec (17 ≤ c .before .args .op) → 17 ≤ c .before .args .op
+    by : Dec (commands ≤ c .before .args .op) → commands ≤ c .before .args .op
     by (yes h) = h
     by (no h) = absurd (none-left (c .before .args .op) (omega arith) (c .match .rest))
 
 pub width-at-spec : {M : Type 1} → statement M
-width-at-spec = tie.close (tie.spec returns returns-2 returns-3 returns-4 returns-5 returns-6 returns-7 returns-8 returns-9 returns-10 returns-11 returns-12 returns-13 returns-14 returns-15 returns-16 returns-17 returns-18)
+width-at-spec = tie.close (tie.spec returns returns-2 returns-3 returns-4 returns-5 returns-6 returns-7 returns-8 returns-9 returns-10 returns-11 returns-12 returns-13 returns-14 returns-15 returns-16 returns-17 returns-18 returns-19)

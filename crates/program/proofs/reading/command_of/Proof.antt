@@ -73,7 +73,11 @@ unfolding commandOf
 returns-17 c s first second value = rw (← first, c .match .keys17)
 
 returns-18 : tie.Need-returns-18
-returns-18 c = absurd (none-left (c .before .args .op) (c .before .pre) (c .match .rest))
+unfolding commandOf
+returns-18 c s first second value = rw (← first, c .match .keys18)
+
+returns-19 : tie.Need-returns-19
+returns-19 c = absurd (none-left (c .before .args .op) (c .before .pre) (c .match .rest))
 
 pub command-of-spec : {M : Type 1} → statement M
 command-of-spec =
@@ -96,4 +100,5 @@ command-of-spec =
     returns-15
     returns-16
     returns-17
-    returns-18)
+    returns-18
+    returns-19)
