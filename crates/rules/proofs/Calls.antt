@@ -21,7 +21,7 @@ use Rattle.rules.specs.Effects.{Effect, applied, past, pushed, endOf, ag
 use Rattle.rules.specs.Steps.{stepped, start, Limits, startState, startWith, waits, refusal}
 use Rattle.rules.specs.Runs.{isFault}
 use Rattle.rules.proofs.Tests.{decide, true-false}
-use Rattle.rules.proofs.Shapes.{Kind, ends, meets, forks, opens, loops, moves}
+use Rattle.rules.proofs.Shapes.{Kind, ends, meets, forks, opens, enters, moves}
 
 -- A step taken answers with the activity's status after it.
 abbrev pub takenAs : State → ℕ → Effect → Stepped
@@ -67,5 +67,5 @@ no-fault {p} {e} {i} {a} u (meets q s n) = rw s (go (isAtBarrier (a .status)))
     go false = refl
 no-fault {p} {e} {i} {a} u (forks b m q s n) = rw s (unfaulted (a .status) u)
 no-fault {p} {e} {i} {a} u (opens b q s n) = rw s (unfaulted (a .status) u)
-no-fault {p} {e} {i} {a} u (loops k b q s n) = rw s (unfaulted (a .status) u)
+no-fault {p} {e} {i} {a} u (enters k b q s n) = rw s (unfaulted (a .status) u)
 no-fault {p} {e} {i} {a} u (moves b g h t k s n) = rw (s, k .status) (unfaulted (a .status) u)

@@ -1,17 +1,18 @@
--- Demand 3, for every accepted table and every list of calls: the ready set is empty only when all have ended, a run takes exactly its counted work, or
--- less with a fault, and a quiescent phase stays so. By induction over the list: each call's state is reached and well-formed.
+-- Demand 3, for every accepted table and every list of calls: the ready set is empty only when all have ended, what a run takes and what it spares is exactly its
+-- counted work, or less with a fault, and a quiescent phase stays so. By induction over the list: each call's state is reached and well-formed.
 use Prim.Native.Nat.{ℕ, zero, suc, _+_, _≤_, _<_}
 use native.Mathlib.Omega.{arith}
 use native.Mathlib.Decide.{ℕ-discrete}
 use mathlib.Core.List.{List, [], _∷_, _++_}
-use mathlib.Core.Bool.{Bool, true, false, cond, _||_}
+use mathlib.Core.Bool.{Bool, true, false, cond, _||_, _&&_, not}
 use mathlib.Core.Path.{_≡_, refl, sym, ap, _∙_, subst}
 use borrow.Author.Tests.{eqb-true, eqb-false, ne-eqb, le-leb}
 use Rattle.rules.specs.declared.state.State.{State}
 use Rattle.rules.specs.declared.answer.Answer.the-variants.{Refused}
 use Rattle.rules.specs.declared.answer.Stepped.{Stepped}
 use Rattle.program.specs.Bodies.{programOf, Program}
-use Rattle.program.specs.Count.{ownWork, workOf}
+use Rattle.program.specs.Command.{named}
+use Rattle.program.specs.Count.{tally, ownWork, workOf}
 use Rattle.program.specs.Table.{numberOf}
 use Rattle.program.proofs.Shape.{Accepted, Counted}
 use Rattle.program.proofs.ShapeLaws.{accepted, numbered, numbered-counted}
@@ -21,10 +22,10 @@ use Rattle.rules.specs.Clocks.{quiescent}
 use Rattle.rules.specs.Faults.{bit}
 use Rattle.rules.specs.Effects.{applied, envOf}
 use Rattle.rules.specs.WellFormed.{wellFormed}
-use Rattle.rules.specs.Steps.{Limits, at, refusal, step, stepped, fault, effect, startState, ready, canStep, waits}
-use Rattle.rules.specs.Runs.{taken, run, runFrom, answers, answersFrom, isAccepted, isFault, someFault, finished}
+use Rattle.rules.specs.Steps.{Limits, at, refusal, start, step, stepped, fault, effect, startState, ready, canStep, waits}
+use Rattle.rules.specs.Runs.{taken, run, runFrom, answers, answersFrom, isAccepted, isFault, someFault, finished, skips, spares, sparedFrom, spared, allRanFrom, allRan}
 use Rattle.rules.specs.Demand3.{isOfRun, allOfRun, Demand3, AtEveryPoint}
-use Rattle.rules.proofs.Tests.{true-false, and-intro}
+use Rattle.rules.proofs.Tests.{true-false, and-true, and-intro}
 use Rattle.rules.proofs.Search.{allBelow-intro, allBelow-at}
 use Rattle.rules.proofs.Sums.{sumBelow, sumBelow-same}
 use Rattle.rules.proofs.Bits.{zero-bits, bits-zero}
@@ -54,10 +55,10 @@ pub data Call (l : Limits) (t : List ℕ) (s : State) (i : ℕ) : Type 0 where
   performed : refusal (programOf t) s i ≡ 0 → fault (programOf t) s i ≡ 0 → step l t s i ≡ takenAs s i (doing (programOf t) s i) → Call l t s i
   faulted : refusal (programOf t) s i ≡ 0 → (fault (programOf t) s i ≡ 0 → ⊥) → step l t s i ≡ takenAs s i (failed (programOf t) s i) → Call l t s i
 
--- The steps taken and the work pending make the work of the table, or less once a fault was given.
-unfoldable pub Account : Program → Bool → State → Type 0
-Account p false s = s .steps + total ownWork p 1 s ≡ workOf p
-Account p true s = s .steps + total ownWork p 1 s < workOf p
+-- The steps taken, the work pending and the work k spared make the work of the table, or less once a fault was given.
+unfoldable pub Account : Program → Bool → ℕ → State → Type 0
+Account p false k s = s .steps + total ownWork p 1 s + k ≡ workOf p
+Account p true k s = s .steps + total ownWork p 1 s + k < workOf p
 
 module _ (l : Limits) (t : List ℕ) (w : l .work ≤ l .phase) (n : numberOf (l .work) t ≡ 0) where
   -- The table's program.
@@ -168,65 +169,87 @@ module _ (l : Limits) (t : List ℕ) (w : l .work ≤ l .phase) (n : numberOf (l
 
   -- WORK
 
+  -- The work that a call spares.
+  abbrev sparing : State → ℕ → Stepped → ℕ
+  sparing s i x = cond (isAccepted (x .answer)) (spares p s i) 0
+
   -- A call keeps the account.
-  account-step : (b : Bool) (s : State) → Good l t s → (i : ℕ) → Account p b s → Account p (b || isFault (step l t s i .answer)) (step l t s i .state)
+  account-step : (b : Bool) (k : ℕ) (s : State) → Good l t s → (i : ℕ) → Account p b k s
+      → Account p (b || isFault (step l t s i .answer)) (k + sparing s i (step l t s i)) (step l t s i .state)
   unfolding Account
-  account-step b s g i a = go (call s g i)
+  account-step b k s g i a = go (call s g i)
     where
-      A : Bool → State → Type 0
-      A b s = Account p b s
+      A : Bool → ℕ → State → Type 0
+      A b k s = Account p b k s
 
       P : Stepped → Type 0
-      P x = A (b || isFault (x .answer)) (x .state)
+      P x = A (b || isFault (x .answer)) (k + sparing s i x) (x .state)
 
-      keep : (b : Bool) → b || false ≡ b
-      keep true = refl
-      keep false = refl
+      same : (b : Bool) (k′ : ℕ) (s′ : State) → s′ .steps + total ownWork p 1 s′ + k′ ≡ s .steps + total ownWork p 1 s + k → A b k s → A (b || false) k′ s′
+      same true k′ s′ e a = omega arith
+      same false k′ s′ e a = e ∙ a
 
-      same : (b : Bool) (s′ : State) → s′ .steps + total ownWork p 1 s′ ≡ s .steps + total ownWork p 1 s → A b s → A b s′
-      same true s′ e a = omega arith
-      same false s′ e a = e ∙ a
-
-      less : (b : Bool) (s′ : State) → s′ .steps + total ownWork p 1 s′ < s .steps + total ownWork p 1 s → A b s → A (b || true) s′
-      less true s′ h a = omega arith
-      less false s′ h a = omega arith
+      less : (b : Bool) (k′ : ℕ) (s′ : State) → s′ .steps + total ownWork p 1 s′ + k′ < s .steps + total ownWork p 1 s + k → A b k s → A (b || true) k′ s′
+      less true k′ s′ h a = omega arith
+      less false k′ s′ h a = omega arith
 
       go : Call l t s i → P (step l t s i)
-      go (refused r e) = subst P (sym e) (subst (λ v. A v s) (sym (keep b)) a)
+      go (refused r e) = subst P (sym e) (same b (k + 0) s (omega arith) a)
       go (performed r f e) =
           let o = turn p s i r in
           let u = doing-work p ok (limits .activities) s (g .reached) i (o .spawned) (o .unended) in
           let q = no-fault (o .unended) (kind p (envOf s) i (act s i) (at p s i .command) (at p s i .inner)) in
           let m = steps-applied s i (doing p s i) in
           subst P (sym e)
-          (subst (λ v. A (b || v) (applied s i (doing p s i))) (sym q)
-          (subst (λ v. A v (applied s i (doing p s i))) (sym (keep b)) (same b (applied s i (doing p s i)) (omega arith) a)))
+          (subst (λ v. A (b || v) (k + spares p s i) (applied s i (doing p s i))) (sym q) (same b (k + spares p s i) (applied s i (doing p s i)) (omega arith) a))
       go (faulted r f e) =
           let o = turn p s i r in
           let u = failed-work p ok (limits .activities) s (g .reached) i (o .spawned) (o .unended) f in
           let m = steps-applied s i (failed p s i) in
-          subst P (sym e) (less b (applied s i (failed p s i)) (omega arith) a)
+          subst P (sym e) (less b (k + spares p s i) (applied s i (failed p s i)) (omega arith) a)
 
   -- A list of calls keeps it.
-  account-run : (b : Bool) (order : List ℕ) (s : State) → Good l t s → Account p b s
-      → Account p (b || someFault (answersFrom l t s order)) (runFrom l t s order)
-  unfolding runFrom answersFrom someFault
-  account-run b [] s g a = subst (λ v. Account p v s) (keep b) a
+  account-run : (b : Bool) (k : ℕ) (order : List ℕ) (s : State) → Good l t s → Account p b k s
+      → Account p (b || someFault (answersFrom l t s order)) (k + sparedFrom l t s order) (runFrom l t s order)
+  unfolding runFrom answersFrom someFault sparedFrom
+  account-run b k [] s g a = subst (λ v. Account p v (k + 0) s) (keep b) (subst (λ n. Account p b n s) (let z : k ≡ k + 0 = omega arith in z) a)
     where
       keep : (b : Bool) → b ≡ b || false
       keep true = refl
       keep false = refl
-  account-run b (i ∷ order) s g a =
-      subst (λ v. Account p v (runFrom l t (step l t s i .state) order))
+  account-run b k (i ∷ order) s g a =
+      subst (λ v. Account p v (k + (now + later)) (runFrom l t (step l t s i .state) order))
       (assoc b (isFault (step l t s i .answer)) (someFault (answersFrom l t (step l t s i .state) order)))
-      (account-run (b || isFault (step l t s i .answer)) order (step l t s i .state) (good-step s g i) (account-step b s g i a))
+      (subst (λ n. Account p ((b || isFault (step l t s i .answer)) || someFault (answersFrom l t (step l t s i .state) order)) n (runFrom l t (step l t s i .state) order))
+      (let z : k + now + later ≡ k + (now + later) = omega arith in z)
+      (account-run (b || isFault (step l t s i .answer)) (k + now) order (step l t s i .state) (good-step s g i) (account-step b k s g i a)))
     where
+      now : ℕ
+      now = sparing s i (step l t s i)
+
+      later : ℕ
+      later = sparedFrom l t (step l t s i .state) order
+
       assoc : (a b c : Bool) → (a || b) || c ≡ a || (b || c)
       assoc true b c = refl
       assoc false b c = refl
 
+  -- Where each CHOOSE ran its body, nothing is spared.
+  none-spared : (order : List ℕ) (s : State) → allRanFrom l t s order ≡ true → sparedFrom l t s order ≡ 0
+  unfolding allRanFrom sparedFrom spares
+  none-spared [] s e = refl
+  none-spared (i ∷ order) s e =
+      let q = and-true (not (isAccepted (step l t s i .answer) && skips (act s i) (at p s i .command))) _ e in
+      let x = none (isAccepted (step l t s i .answer)) (skips (act s i) (at p s i .command)) (q .0) in
+      omega (arith, none-spared order (step l t s i .state) (q .1))
+    where
+      none : (x y : Bool) → not (x && y) ≡ true → cond x (cond y (tally ownWork p (named (at p s i .command))) 0) 0 ≡ 0
+      none true true e = absurd (true-false false e refl)
+      none true false e = refl
+      none false y e = refl
+
   -- At the start all is pending.
-  start-account : Account p false startState
+  start-account : Account p false 0 startState
   unfolding Account workOf
   start-account = omega (arith, start-total p ok ownWork 1)
 
@@ -329,23 +352,39 @@ module _ (l : Limits) (t : List ℕ) (w : l .work ≤ l .phase) (n : numberOf (l
   pub counted : (order : List ℕ) → run l t order .steps ≡ taken (answers l t order)
   counted order = rw (run-start order, answers-start order) (omega (arith, steps-run order startState good-start))
 
-  -- The steps taken and the work pending, at every point.
-  pub account : (order : List ℕ) → Account p (someFault (answers l t order)) (run l t order)
-  account order = rw (run-start order, answers-start order) (account-run false order startState good-start start-account)
+  -- So does what it spares.
+  spared-start : (order : List ℕ) → spared l t order ≡ sparedFrom l t startState order
+  unfolding spared
+  spared-start order = ap (λ s. sparedFrom l t s order) (start-taken l t n)
+
+  -- The steps taken, the work pending and the work spared, at every point.
+  pub account : (order : List ℕ) → Account p (someFault (answers l t order)) (spared l t order) (run l t order)
+  account order =
+      rw (run-start order, answers-start order, spared-start order)
+      (subst (λ k. Account p (someFault (answersFrom l t startState order)) k (runFrom l t startState order)) (let z : 0 + sparedFrom l t startState order ≡ sparedFrom l t startState order = omega arith in z)
+      (account-run false 0 order startState good-start start-account))
 
   -- Finished without a fault: the work.
-  whole : (order : List ℕ) → finished (run l t order) ≡ true → someFault (answers l t order) ≡ false → taken (answers l t order) ≡ workOf p
+  accounted : (order : List ℕ) → finished (run l t order) ≡ true → someFault (answers l t order) ≡ false
+      → taken (answers l t order) + spared l t order ≡ workOf p
   unfolding finished Account
-  whole order e f =
-      let a : run l t order .steps + total ownWork p 1 (run l t order) ≡ workOf p = subst (λ b. Account p b (run l t order)) f (account order) in
+  accounted order e f =
+      let a : run l t order .steps + total ownWork p 1 (run l t order) + spared l t order ≡ workOf p =
+          subst (λ b. Account p b (spared l t order) (run l t order)) f (account order) in
       let z = total-ended (run l t order) (allBelow-at (run l t order .activities) (ended (run l t order)) e) in
       omega (arith, counted order)
 
+  -- And each CHOOSE ran its body: the run took it all.
+  whole : (order : List ℕ) → finished (run l t order) ≡ true → someFault (answers l t order) ≡ false → allRan l t order ≡ true → taken (answers l t order) ≡ workOf p
+  unfolding allRan spared
+  whole order e f r = omega (arith, accounted order e f, none-spared order (start l t .state) r)
+
   -- With a fault: less.
-  less : (order : List ℕ) → someFault (answers l t order) ≡ true → taken (answers l t order) < workOf p
+  less : (order : List ℕ) → someFault (answers l t order) ≡ true → taken (answers l t order) + spared l t order < workOf p
   unfolding Account
   less order f =
-      let a : run l t order .steps + total ownWork p 1 (run l t order) < workOf p = subst (λ b. Account p b (run l t order)) f (account order) in
+      let a : run l t order .steps + total ownWork p 1 (run l t order) + spared l t order < workOf p =
+          subst (λ b. Account p b (spared l t order) (run l t order)) f (account order) in
       omega (arith, counted order)
 
   -- A longer list goes on from the end of a shorter one.
@@ -370,6 +409,7 @@ module _ (l : Limits) (t : List ℕ) (w : l .work ≤ l .phase) (n : numberOf (l
         steps = steps (run l t order) (good-at order);
         bounded = omega (arith, counted order, good-at order .reached .work);
         whole = whole order;
+        accounted = accounted order;
         less = less order;
         stable = λ before after e c q h z. subst (λ o. quiescent (run l t o) c q ≡ true) e (stable before after c q h z);
       }

@@ -24,7 +24,7 @@ use Rattle.rules.specs.Effects.{lent, endOf, again, popped, past, stoppe
 use Rattle.rules.proofs.Tests.{true-false, cond-zero, and-not, and-false}
 use Rattle.rules.proofs.Search.{someBelow-none}
 use Rattle.rules.proofs.Lists.{old, stored, Stored, new}
-use Rattle.rules.proofs.Shapes.{ends, Replaced, dropped, resumed, created, Reheld, kept, replaced, Kind, meets, forks, opens, loops, moves}
+use Rattle.rules.proofs.Shapes.{ends, Replaced, dropped, resumed, created, Reheld, kept, replaced, Kind, meets, forks, opens, enters, moves}
 
 -- EACH HOLD OF A LIST
 
@@ -199,5 +199,5 @@ turned {p} {e} {i} {a} (ends q s n) = rw s (turned-end p (e .clock) a)
 turned {p} {e} {i} {a} (meets q s n) = rw s (turned-next p (e .clock) a (isAtBarrier (a .status)))
 turned {p} {e} {i} {a} (forks b m q s n) = rw s (turned-same (e .clock) (a .holds))
 turned {p} {e} {i} {a} (opens b q s n) = rw s (turned-same (e .clock) (a .holds))
-turned {p} {e} {i} {a} (loops k b q s n) = rw s (turned-same (e .clock) (a .holds))
+turned {p} {e} {i} {a} (enters k b q s n) = rw s (turned-same (e .clock) (a .holds))
 turned {p} {e} {i} {a} (moves b g h t k s n) = rw s (turned-held (e .clock) (a .holds) (b .holds) (k .holds))

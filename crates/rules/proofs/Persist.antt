@@ -8,7 +8,7 @@ use mathlib.Core.Logic.{_⊎_, inl, inr}
 use lib.Dec.{leb, eqb}
 use borrow.Author.Tests.{eqb-true, eqb-false, eq-eqb}
 use Rattle.program.specs.declared.command.Command.{Command}
-use Rattle.program.specs.declared.command.Command.the-variants.{End, Next, Clock, Resume, Drop, Async, Finish, Repeat, Acc, Offer, Read, Reset, Put, Fetch, Store, Add, Atom}
+use Rattle.program.specs.declared.command.Command.the-variants.{End, Next, Clock, Resume, Drop, Async, Finish, Repeat, Acc, Offer, Read, Reset, Put, Fetch, Store, Add, Atom, Choose}
 use Rattle.program.specs.Bodies.{Program}
 use Rattle.program.proofs.Shape.{Accepted, Ranged}
 use Rattle.program.proofs.ShapeRanges.{within}
@@ -68,6 +68,7 @@ breach-same p s s′ x a h (Fetch d) r = refl
 breach-same p s s′ x a h (Store d) r = refl
 breach-same p s s′ x a h (Add d) r = refl
 breach-same p s s′ x a h (Atom k) r = refl
+breach-same p s s′ x a h (Choose b) r = refl
 
 -- WAITING
 
@@ -99,6 +100,7 @@ wait-before p s s′ x a y ins bel beh (Fetch d) e = absurd (true-false false e 
 wait-before p s s′ x a y ins bel beh (Store d) e = absurd (true-false false e refl)
 wait-before p s s′ x a y ins bel beh (Add d) e = absurd (true-false false e refl)
 wait-before p s s′ x a y ins bel beh (Atom k) e = absurd (true-false false e refl)
+wait-before p s s′ x a y ins bel beh (Choose b) e = absurd (true-false false e refl)
 
 -- THE STEP OF ANOTHER
 

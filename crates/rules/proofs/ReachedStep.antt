@@ -22,17 +22,18 @@ use Rattle.rules.specs.Tree.{inFinishBody}
 use Rattle.rules.specs.Faults.{Env, spoilt}
 use Rattle.rules.specs.Effects.{envOf, applied, Effect, one, Spawned, spawnedCount, nobody, clockedCount, past, pushed, endOf, again, popped, nextOf, stopped}
 use Rattle.rules.specs.Steps.{at, refusal, effect, breach, fault}
+use Rattle.rules.specs.Runs.{spares}
 use Rattle.rules.proofs.Tests.{and-true, true-false}
 use Rattle.rules.proofs.Sums.{sumBelow-at, upd, upd-other, upd-same}
 use Rattle.rules.proofs.Sized.{SizedActivity}
-use Rattle.rules.proofs.Shapes.{meets, isNext, Counts, counts, OfChild, Kind, ends, forks, opens, loops, moves, kind, breaching}
+use Rattle.rules.proofs.Shapes.{meets, isNext, Counts, counts, OfChild, Kind, ends, forks, opens, enters, moves, kind, breaching}
 use Rattle.rules.proofs.Applied.{each, Fits, activities-applied, clocks-applied, accumulators-applied, steps-applied}
 use Rattle.rules.proofs.Holders.{turned, turned-none}
 use Rattle.rules.proofs.VirtualTime.{Fine, later, fine-self, fine-born, later-slow, fine-stopped}
 use Rattle.rules.proofs.Containment.{held-turned, born-after, Opening}
 use Rattle.rules.proofs.Stack.{Stack}
 use Rattle.rules.proofs.Potential.{pend, pend-ended}
-use Rattle.rules.proofs.Spending.{spent, pendChild, spends, standing, stack-born, Left, left-by, fault-pend, spoilt-pend}
+use Rattle.rules.proofs.Spending.{spent, spare, pendChild, spends, standing, stack-born, Left, left-by, undone}
 use Rattle.rules.proofs.Turn.{turn, faultless, fault-ways, doing, failed, by-fault}
 use Rattle.rules.proofs.Sizes.{size-self, size-born, size-stopped}
 use Rattle.rules.proofs.Pending.{total, spent-work, next-makes, spent-own, next-work, work-some, total-applied}
@@ -61,7 +62,7 @@ same-spawner {p} {e} {i} {a} (meets q s n) = ap (λ b. b .spawner) s ∙ go (isA
     go false = refl
 same-spawner (forks b m q s n) = ap (λ b. b .spawner) s
 same-spawner (opens b q s n) = ap (λ b. b .spawner) s
-same-spawner (loops k b q s n) = ap (λ b. b .spawner) s
+same-spawner (enters k b q s n) = ap (λ b. b .spawner) s
 same-spawner (moves b g h t k s n) = ap (λ b. b .spawner) s ∙ k .spawner
 
 module _ (p : Program) (ok : Accepted p) (few : activitiesOf p ≤ 64) (s : State) (g : Reached p s) (i : ℕ) (h : i < s .activities) (r : ended s i ≡ false) where
@@ -88,6 +89,7 @@ module _ (p : Program) (ok : Accepted p) (few : activitiesOf p ≤ 64) (s : Stat
   spending : (own : Command → ℕ) (late : ℕ) → late ≤ own Next
       → pend own p late (act s i)
       ≡ spent own late (at p s i .command) (isAtBarrier (act s i .status)) + pend own p late (doing p s i .self) + pendChild own p late (doing p s i .spawned)
+      + spare own p (act s i) (at p s i .command)
   unfolding at
   spending own late l = spends p ok s i (act s i) (g .inv .stacks i h r) r (g .inv .meets i h) (at p s i .command) refl own late l its
 
@@ -110,17 +112,18 @@ module _ (p : Program) (ok : Accepted p) (few : activitiesOf p ≤ 64) (s : Stat
       go nobody l = tt
       go (one c) l = omega arith
 
-  -- What is pending falls by the weight of the step.
+  -- What is pending falls by the weight of the step and by what it spares.
   doing-total : (own : Command → ℕ) (late : ℕ) → late ≤ own Next
-      → total own p late (applied s i (doing p s i)) + spent own late (at p s i .command) (isAtBarrier (act s i .status)) ≡ total own p late s
+      → total own p late (applied s i (doing p s i)) + spent own late (at p s i .command) (isAtBarrier (act s i .status)) + spare own p (act s i) (at p s i .command)
+      ≡ total own p late s
   doing-total own late l =
       let x = total-applied own p late s (g .inv .bounded) i h (doing p s i) doing-fits in
       let y = spending own late l in
       omega arith
 
-  -- The work pending falls by 1.
-  pub doing-work : total ownWork p 1 (applied s i (doing p s i)) + 1 ≡ total ownWork p 1 s
-  unfolding Counts
+  -- The work pending falls by 1 and by what is spared.
+  pub doing-work : total ownWork p 1 (applied s i (doing p s i)) + 1 + spares p s i ≡ total ownWork p 1 s
+  unfolding Counts spares spare
   doing-work =
       let x = doing-total ownWork 1 next-work in
       let y = spent-work (at p s i .command) (isAtBarrier (act s i .status)) (row .3) in
@@ -204,19 +207,23 @@ module _ (p : Program) (ok : Accepted p) (few : activitiesOf p ≤ 64) (s : Stat
       let z = pend-ended own p late (failed p s i .self) refl in
       omega arith
 
-  -- The command and one more at least are never done.
-  pub failed-work : (fault p s i ≡ 0 → ⊥) → total ownWork p 1 (applied s i (failed p s i)) + 2 ≤ total ownWork p 1 s
-  unfolding at breach spoilt inFinishBody
-  failed-work f = let x = failed-total ownWork 1 in let y = lost (fault-ways p s i f) in omega arith
+  -- The command, one more at least, and what it would spare are never done.
+  pub failed-work : (fault p s i ≡ 0 → ⊥) → total ownWork p 1 (applied s i (failed p s i)) + 2 + spares p s i ≤ total ownWork p 1 s
+  unfolding at breach spoilt inFinishBody spares spare Counts
+  failed-work f =
+      let x = failed-total ownWork 1 in
+      let y = spent-work (at p s i .command) (isAtBarrier (act s i .status)) (row .3) in
+      let z =
+          undone p ok s i (act s i) (g .inv .stacks i h r) r (g .inv .meets i h) (at p s i .command) refl ownWork 1 work-some (omega arith) next-work
+          (deep (fault-ways p s i f)) its in
+      omega arith
     where
-      lost : (breach p s i ≡ 0 → ⊥) ⊎ (spoilt p s i (act s i) (at p s i .command) ≡ true) → 2 ≤ pend ownWork p 1 (act s i)
-      lost (inl b) =
-          let q = breaching b its in
-          fault-pend p ok s i (act s i) (g .inv .stacks i h r) r (g .inv .meets i h) (at p s i .command) refl ownWork 1 work-some (q .0) (q .1)
-      lost (inr e) =
+      deep : (breach p s i ≡ 0 → ⊥) ⊎ (spoilt p s i (act s i) (at p s i .command) ≡ true) → isEnd (at p s i .command) ≡ true → 1 < act s i .depth
+      deep (inl b) l = absurd (true-false _ l (breaching b its .0))
+      deep (inr e) l =
           let q = and-true (isEnd (at p s i .command)) _ e in
           let d = and-true (ltb 1 (act s i .depth)) _ (and-true (inFinishBody p (act s i)) _ (q .1) .0) in
-          spoilt-pend p ok s i (act s i) (g .inv .stacks i h r) r (g .inv .meets i h) (at p s i .command) refl ownWork 1 work-some (q .0) (ltb-true 1 (act s i .depth) (d .0))
+          ltb-true 1 (act s i .depth) (d .0)
 
   -- The state after it is reached.
   pub failed-reached : (fault p s i ≡ 0 → ⊥) → Reached p (applied s i (failed p s i))
@@ -265,7 +272,7 @@ fits-step p ok few s g i e =
     let r = turn p s i e in
     by-fault p s i (λ x. Fits s (x .spawned)) (λ f. doing-fits p ok few s g i (r .spawned) (r .unended)) (λ f. tt)
 
--- What is pending after a step is less by 1, by 2 at least where it is a fault.
+-- What is pending after a step is less by 1 at least, by 2 where it is a fault.
 pub work-step : (p : Program) (ok : Accepted p) → activitiesOf p ≤ 64 → (s : State) → Reached p s → (i : ℕ) → refusal p s i ≡ 0
     → total ownWork p 1 (applied s i (effect p s i)) + 1 ≤ total ownWork p 1 s
 work-step p ok few s g i e =

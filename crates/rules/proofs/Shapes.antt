@@ -1,5 +1,6 @@
--- The shape of each command's effect: seventeen commands, six kinds. The proofs go by the kind, so that only this file has an arm for each command.
-use Prim.Native.Nat.{ℕ, zero, suc, _+_}
+-- The shape of each command's effect: eighteen commands, six kinds. The proofs go by the kind, so that only this file has an arm for each command.
+use Prim.Native.Nat.{ℕ, zero, suc, _+_, _-_, _*_}
+use native.Mathlib.Nat.{suc-mul}
 use native.Mathlib.Omega.{arith}
 use mathlib.Core.List.{List, [], _∷_}
 use mathlib.Core.Bool.{Bool, true, false, cond}
@@ -7,7 +8,7 @@ use mathlib.Core.Path.{_≡_, refl, sym, _∙_}
 use lib.ListN.{length, getD, set, length-set}
 use lib.Dec.{eqb}
 use Rattle.program.specs.declared.command.Command.{Command}
-use Rattle.program.specs.declared.command.Command.the-variants.{End, Next, Clock, Resume, Drop, Async, Finish, Repeat, Acc, Offer, Read, Reset, Put, Fetch, Store, Add, Atom}
+use Rattle.program.specs.declared.command.Command.the-variants.{End, Next, Clock, Resume, Drop, Async, Finish, Repeat, Acc, Offer, Read, Reset, Put, Fetch, Store, Add, Atom, Choose}
 use Rattle.rules.specs.declared.state.Registration.the-variants.{Live}
 use Rattle.rules.specs.declared.state.Hold.{Hold}
 use Rattle.rules.specs.declared.state.Activity.{Activity}
@@ -17,9 +18,11 @@ use Rattle.program.specs.Count.{ownActivities, ownClocks, ownAccumulators, ownW
 use Rattle.program.proofs.ShapeRows.{saying, times-is, work-is, activities-is, clocks-is, accumulators-is}
 use Rattle.rules.specs.State.{noHold, isAtBarrier}
 use Rattle.rules.specs.Clocks.{quiesce}
+use Rattle.rules.specs.Tree.{isFinish}
 use Rattle.rules.specs.Faults.{Env, faultFor}
+use Rattle.rules.specs.Runs.{skips}
 use Rattle.rules.proofs.Tests.{true-false}
-use Rattle.rules.specs.Effects.{Effect, endOf, nobody, nextOf, past, one, child, pushed, withHolds, withRegister, withNames, effectOf, repeatOf, spawnedCount, clockedCount, writtenCount, Spawned, Write, keep, make, offer, reset, Stored, withStores}
+use Rattle.rules.specs.Effects.{Effect, endOf, nobody, nextOf, past, one, child, pushed, withHolds, withRegister, withNames, effectOf, repeatOf, chooseOf, alone, spawnedCount, clockedCount, writtenCount, Spawned, Write, keep, make, offer, reset, Stored, withStores}
 
 -- The command is NEXT.
 unfoldable pub isNext : Command → Bool
@@ -47,6 +50,16 @@ pub record Alike (made : ℕ) (clocked : Bool) (a b : Activity) : Type 0 where
   pub names : length (b .accumulators) ≡ length (a .accumulators)
   pub holds : Reheld made clocked (a .holds) (b .holds)
 
+-- Activity a at command c begins body b, with k runs left where c is a REPEAT, and c is no FINISH.
+pub record Enters (a : Activity) (c : Command) (b k : ℕ) : Type 0 where
+  pub goes : isEnd c ≡ false
+  pub quiet : isNext c ≡ false
+  pub plain : isFinish c ≡ false
+  pub some : saying c .names ≡ true
+  pub body : saying c .named ≡ b
+  pub often : (x : ℕ) → saying c .times * x ≡ x + (k - 1) * x
+  pub chosen : skips a c ≡ false
+
 -- What the effect x of command c of activity i, which is a, does.
 pub data Kind (p : Program) (e : Env) (i : ℕ) (a : Activity) (c : Command) (x : Effect) : Type 0 where
   -- END
@@ -57,10 +70,10 @@ pub data Kind (p : Program) (e : Env) (i : ℕ) (a : Activity) (c : Command) (x 
   forks : (b m : ℕ) → c ≡ Async b m → x .self ≡ past p a → x .spawned ≡ one (child i a b m) → Kind p e i a c x
   -- FINISH
   opens : (b : ℕ) → c ≡ Finish b → x .self ≡ pushed a b 0 (e .first) → x .spawned ≡ nobody → Kind p e i a c x
-  -- REPEAT of at least one run
-  loops : (n b : ℕ) → c ≡ Repeat (suc n) b → x .self ≡ pushed a b (suc n) 0 → x .spawned ≡ nobody → Kind p e i a c x
-  -- All others: the activity goes on after its command.
-  moves : (b : Activity) → isEnd c ≡ false → isNext c ≡ false → times c ≡ 0 → Alike (e .clock) (x .clocked) a b → x .self ≡ past p b
+  -- REPEAT of at least one run, and CHOOSE that runs its body
+  enters : (k b : ℕ) → Enters a c b k → x .self ≡ pushed a b k 0 → x .spawned ≡ nobody → Kind p e i a c x
+  -- All others: the activity goes on after its command, past the body that a CHOOSE skips.
+  moves : (b : Activity) → isEnd c ≡ false → isNext c ≡ false → times c ≡ cond (skips a c) 1 0 → Alike (e .clock) (x .clocked) a b → x .self ≡ past p b
       → x .spawned ≡ nobody → Kind p e i a c x
 
 -- The activity itself, its holds, its register and its names changed.
@@ -79,9 +92,25 @@ alike-names n v = record { frames = refl; depth = refl; status = refl; spawner =
 alike-self : {made : ℕ} {clocked : Bool} {a : Activity} → Alike made clocked a a
 alike-self = record { frames = refl; depth = refl; status = refl; spawner = refl; names = refl; holds = kept refl }
 
+-- One run and those after it.
+suc-times : (n x : ℕ) → suc n * x ≡ x + (suc n - 1) * x
+suc-times n x = let e : suc n - 1 ≡ n = omega arith in rw e (omega (arith, suc-mul n x))
+
+-- One run.
+one-time : (x : ℕ) → 1 * x ≡ x + (0 - 1) * x
+one-time x = omega arith
+
+-- CHOOSE, with hand 0 or another.
+choosing : (p : Program) (e : Env) (i : ℕ) (a : Activity) (b : ℕ) (z : Bool) → eqb (a .register) 0 ≡ z
+    → Kind p e i a (Choose b) (alone (cond z (past p a) (pushed a b 0 0)))
+unfolding isEnd isNext skips
+choosing p e i a b true z = moves a refl refl (times-is (Choose b) ∙ rw z) alike-self refl refl
+choosing p e i a b false z =
+    enters 0 b (record { goes = refl; quiet = refl; plain = refl; some = refl; body = refl; often = one-time; chosen = rw z }) refl refl
+
 -- Each command's kind.
 pub kind : (p : Program) (e : Env) (i : ℕ) (a : Activity) (c : Command) (inner : List Command) → Kind p e i a c (effectOf p e i a c inner)
-unfolding effectOf repeatOf isEnd isNext
+unfolding effectOf repeatOf chooseOf isEnd isNext skips
 kind p e i a End inner = ends refl refl refl
 kind p e i a Next inner = meets refl refl refl
 kind p e i a (Clock c) inner = moves _ refl refl (times-is (Clock c)) (alike-holds (replaced c _ (created refl refl) refl)) refl refl
@@ -90,7 +119,8 @@ kind p e i a (Drop c) inner = moves _ refl refl (times-is (Drop c)) (alike-holds
 kind p e i a (Async b m) inner = forks b m refl refl refl
 kind p e i a (Finish b) inner = opens b refl refl refl
 kind p e i a (Repeat zero b) inner = moves a refl refl (times-is (Repeat zero b)) alike-self refl refl
-kind p e i a (Repeat (suc n) b) inner = loops n b refl refl refl
+kind p e i a (Repeat (suc n) b) inner =
+    enters (suc n) b (record { goes = refl; quiet = refl; plain = refl; some = refl; body = refl; often = suc-times n; chosen = refl }) refl refl
 kind p e i a (Acc n o) inner = moves _ refl refl (times-is (Acc n o)) (alike-names n (e .accumulator + 1)) refl refl
 kind p e i a (Offer n) inner = moves a refl refl (times-is (Offer n)) alike-self refl refl
 kind p e i a (Read n) inner = moves _ refl refl (times-is (Read n)) (alike-register _) refl refl
@@ -100,6 +130,7 @@ kind p e i a (Fetch d) inner = moves _ refl refl (times-is (Fetch d)) (alike-reg
 kind p e i a (Store d) inner = moves _ refl refl (times-is (Store d)) (alike-register _) refl refl
 kind p e i a (Add d) inner = moves _ refl refl (times-is (Add d)) (alike-register _) refl refl
 kind p e i a (Atom k) inner = moves _ refl refl (times-is (Atom k)) (alike-register _) refl refl
+kind p e i a (Choose b) inner = choosing p e i a b (eqb (a .register) 0) refl
 
 -- COUNTS
 
@@ -136,6 +167,7 @@ made p e i a (Fetch d) inner = (refl, refl, refl, refl)
 made p e i a (Store d) inner = (refl, refl, refl, refl)
 made p e i a (Add d) inner = (refl, refl, refl, refl)
 made p e i a (Atom k) inner = (refl, refl, refl, refl)
+made p e i a (Choose b) inner = (refl, refl, refl, refl)
 
 -- Each command's row.
 pub counts : (p : Program) (e : Env) (i : ℕ) (a : Activity) (c : Command) (inner : List Command) → Counts c (effectOf p e i a c inner)
@@ -188,7 +220,7 @@ module _ {p : Program} {e : Env} {i : ℕ} {a : Activity} {c : Command} {x : Eff
   born P f (meets q s n) = rw n tt
   born P f (forks b m q s n) = rw n (f b m q)
   born P f (opens b q s n) = rw n tt
-  born P f (loops k b q s n) = rw n tt
+  born P f (enters k b q s n) = rw n tt
   born P f (moves b g h t k s n) = rw n tt
 
   -- Whoever breaches a rule stands neither on END nor on NEXT.
@@ -198,7 +230,7 @@ module _ {p : Program} {e : Env} {i : ℕ} {a : Activity} {c : Command} {x : Eff
   breaching f (meets q s n) = absurd (f (rw q))
   breaching f (forks b m q s n) = (rw q, rw q)
   breaching f (opens b q s n) = (rw q, rw q)
-  breaching f (loops k b q s n) = (rw q, rw q)
+  breaching f (enters k b q s n) = (q .goes, q .quiet)
   breaching f (moves b g h t k s n) = (g, h)
 
   -- The command of which `isEnd` holds is END.
@@ -208,5 +240,5 @@ module _ {p : Program} {e : Env} {i : ℕ} {a : Activity} {c : Command} {x : Eff
   is-end (meets q s n) l = absurd (true-false (isEnd c) l (rw q))
   is-end (forks b m q s n) l = absurd (true-false (isEnd c) l (rw q))
   is-end (opens b q s n) l = absurd (true-false (isEnd c) l (rw q))
-  is-end (loops k b q s n) l = absurd (true-false (isEnd c) l (rw q))
+  is-end (enters k b q s n) l = absurd (true-false (isEnd c) l (q .goes))
   is-end (moves b g h t k s n) l = absurd (true-false (isEnd c) l g)

@@ -20,7 +20,7 @@ use Rattle.rules.specs.Effects.{Spawned, nobody, one, spawnedCount, with
 use Rattle.rules.specs.Steps.{at, effect}
 use Rattle.rules.proofs.Lists.{old, new, stored, Stored}
 use Rattle.rules.proofs.Sized.{Sized, SizedActivity}
-use Rattle.rules.proofs.Shapes.{OfChild, born, length-stores, Alike, Reheld, kept, replaced, Kind, ends, meets, forks, opens, loops, moves, kind}
+use Rattle.rules.proofs.Shapes.{OfChild, born, length-stores, Alike, Reheld, kept, replaced, Kind, ends, meets, forks, opens, enters, moves, kind}
 use Rattle.rules.proofs.Applied.{Bounded, Fits}
 use Rattle.rules.proofs.Turn.{by-fault}
 
@@ -138,7 +138,7 @@ module _ (p : Program) where
     size-self (meets q s n) = rw s (size-next a (isAtBarrier (a .status)) z)
     size-self (forks b m q s n) = rw s (size-past a z)
     size-self (opens b q s n) = rw s (size-pushed a b 0 (e .first) z)
-    size-self (loops k b q s n) = rw s (size-pushed a b (suc k) 0 z)
+    size-self (enters k b q s n) = rw s (size-pushed a b k 0 z)
     size-self (moves b g h t k s n) = rw s (size-past b (size-alike k z))
 
     -- And the one it spawns.

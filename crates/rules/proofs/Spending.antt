@@ -23,9 +23,10 @@ use Rattle.rules.specs.State.{isEnded, isAtBarrier, top}
 use Rattle.rules.specs.Clocks.{pass, quiesce}
 use Rattle.rules.specs.Tree.{here, isFinish, rest}
 use Rattle.rules.specs.Effects.{Spawned, nobody, one, Effect, past, pushed, endOf, again, popped, stopped, nextOf, withHolds, envOf, child}
+use Rattle.rules.specs.Runs.{skips}
 use Rattle.rules.proofs.Tests.{decide, true-false}
 use Rattle.rules.proofs.Sums.{times-pred}
-use Rattle.rules.proofs.Shapes.{isNext, meets, Kind, ends, forks, opens, loops, moves, born, OfChild}
+use Rattle.rules.proofs.Shapes.{isNext, meets, Kind, ends, forks, opens, enters, moves, born, OfChild}
 use Rattle.rules.proofs.Tree.{Open}
 use Rattle.rules.proofs.Containment.{Opening, open-before, Was, begun-now}
 use Rattle.rules.proofs.Bodies.{above-here, last-here}
@@ -35,6 +36,15 @@ use Rattle.rules.proofs.Potential.{pend, frames, cost, cost-is, pend-ru
 -- The weight of a step at command c; b tells whether the activity was at a barrier, where passing, of weight `late`, is left of NEXT.
 unfoldable pub spent : (Command → ℕ) → ℕ → Command → Bool → ℕ
 spent own late c b = cond b late (own c - cond (isNext c) late 0)
+
+-- What a step spares: what the body comes to that its CHOOSE skips.
+unfoldable pub spare : (Command → ℕ) → Program → Activity → Command → ℕ
+spare own p a c = cond (skips a c) (tally own p (named c)) 0
+
+-- A body skipped once.
+skipped : (b : Bool) (x : ℕ) → cond b 1 0 * x ≡ cond b x 0
+skipped true x = omega arith
+skipped false x = omega arith
 
 -- What is pending of the one spawned.
 unfoldable pub pendChild : (Command → ℕ) → Program → ℕ → Spawned → ℕ
@@ -77,7 +87,7 @@ module _ (p : Program) (ok : Accepted p) (s : State) (i : ℕ) (a : Activity) (s
         goes : isEnd (here p (top b) .command) ≡ false
         goes = rw (bd, bf, q) g
 
-    -- A body is begun by FINISH or REPEAT.
+    -- A body is begun by FINISH, REPEAT or CHOOSE.
     left-push : (b n f : ℕ) → top a .body < b → b < length p → isEnd c ≡ false → isNext c ≡ false → (isFinish c ≡ true → f ≡ s .activities) → (x : Effect)
         → x .self ≡ pushed a b n f → x .spawned ≡ nobody → Left p s a x
     unfolding pushed Opening
@@ -139,9 +149,9 @@ module _ (p : Program) (ok : Accepted p) (s : State) (i : ℕ) (a : Activity) (s
     left-by {x} (opens b z xs n) =
         let l = subst (λ c. (top a .body < saying c .named) × (saying c .named < length p)) z (names-above (rw z)) in
         left-push b 0 (s .activities) (l .0) (l .1) (rw z) (rw z) (λ f. refl) x xs n
-    left-by {x} (loops k b z xs n) =
-        let l = subst (λ c. (top a .body < saying c .named) × (saying c .named < length p)) z (names-above (rw z)) in
-        left-push b (suc k) 0 (l .0) (l .1) (rw z) (rw z) (λ f. absurd (true-false false (rw z at f) refl)) x xs n
+    left-by {x} (enters k b z xs n) =
+        let l = subst (λ d. (top a .body < d) × (d < length p)) (z .body) (names-above (z .some)) in
+        left-push b k 0 (l .0) (l .1) (z .goes) (z .quiet) (λ f. absurd (true-false _ f (z .plain))) x xs n
     left-by {x} (moves b g h t k xs n) = left-past b (k .depth) (k .frames) (rw (k .status) (standing (rw q h))) g x xs
 
     -- The stack of the one spawned.
@@ -152,6 +162,24 @@ module _ (p : Program) (ok : Accepted p) (s : State) (i : ℕ) (a : Activity) (s
         (λ b m z.
         (stack-lone p ok (record { offset = 0; body = b; runs = 0; first = 0 }) (subst (λ c. saying c .named < length p) z (names-above (rw z) .1)) refl refl, refl))
         k
+
+    -- Only an END of the lowest body ends its activity.
+    goes-on : (isEnd c ≡ true → 1 < a .depth) → {x : Effect} → Kind p (envOf s) i a c x → isEnded (x .self .status) ≡ false
+    unfolding endOf again popped past pushed nextOf isEnd
+    goes-on d (ends z xs n) = rw (xs, lt-leb (a .depth) 1 (d (rw z))) (go (ltb 1 (top a .runs)))
+      where
+        go : (y : Bool) → isEnded (cond y (again a) (popped p a) .status) ≡ false
+        go true = u
+        go false = u
+    goes-on d (meets z xs n) = rw xs (go (isAtBarrier (a .status)))
+      where
+        go : (y : Bool) → isEnded (nextOf p a y .status) ≡ false
+        go true = refl
+        go false = refl
+    goes-on d (forks b m z xs n) = rw xs u
+    goes-on d (opens b z xs n) = rw xs u
+    goes-on d (enters k b z xs n) = rw xs u
+    goes-on d (moves b g h t k xs n) = rw (xs, k .status) u
 
     -- WHAT IS PENDING
 
@@ -211,17 +239,21 @@ module _ (p : Program) (ok : Accepted p) (s : State) (i : ℕ) (a : Activity) (s
           there : Activity
           there = withHolds a AtBarrier (map quiesce (a .holds))
 
-      -- A step without a fault lowers what is pending by its weight.
+      -- A step without a fault lowers what is pending by its weight and by what it spares.
       pub spends : late ≤ own Next → {x : Effect} → Kind p (envOf s) i a c x
-          → Pend a ≡ spent own late c (isAtBarrier (a .status)) + Pend (x .self) + pendChild own p late (x .spawned)
-      unfolding cost isEnd isNext pendChild child
+          → Pend a ≡ spent own late c (isAtBarrier (a .status)) + Pend (x .self) + pendChild own p late (x .spawned) + spare own p a c
+      unfolding cost isEnd isNext pendChild child spare skips
       spends l {x} (ends z xs n) =
           let y = end-left (rw z) (rw z) in
           let w = before (rw z) in
           let v = weight (rw z) in
           let r : cost own (tally own p) c ≡ own c = cost-is own (tally own p) c ∙ rw z (omega arith) in
+          let o : spare own p a c ≡ 0 = rw z in
           rw (xs, n) (omega arith)
-      spends l {x} (meets z xs n) = let y = next-spends z l (isAtBarrier (a .status)) refl in rw (xs, n) (omega arith)
+      spends l {x} (meets z xs n) =
+          let y = next-spends z l (isAtBarrier (a .status)) refl in
+          let o : spare own p a c ≡ 0 = rw z in
+          rw (xs, n) (omega arith)
       spends l {x} (forks b m z xs n) =
           let y = past-left a refl refl (standing (rw (q, z))) u (rw z) in
           let w = before (rw z) in
@@ -229,6 +261,7 @@ module _ (p : Program) (ok : Accepted p) (s : State) (i : ℕ) (a : Activity) (s
           let r : cost own (tally own p) c ≡ own c + tally own p b = cost-is own (tally own p) c ∙ rw z (omega arith) in
           let hi = subst (λ c. saying c .named < length p) z (names-above (rw z) .1) in
           let k = lone-pend own p ok late (child i a b m) (record { offset = 0; body = b; runs = 0; first = 0 }) refl refl refl hi refl refl in
+          let o : spare own p a c ≡ 0 = rw z in
           rw (xs, n) (omega arith)
       spends l {x} (opens b z xs n) =
           let h = subst (λ c. (top a .body < saying c .named) × (saying c .named < length p)) z (names-above (rw z)) in
@@ -237,43 +270,33 @@ module _ (p : Program) (ok : Accepted p) (s : State) (i : ℕ) (a : Activity) (s
           let v = weight (rw z) in
           let r : cost own (tally own p) c ≡ own c + tally own p b = cost-is own (tally own p) c ∙ rw z (omega arith) in
           let k : (0 - 1) * tally own p b ≡ 0 = zero-mul _ in
+          let o : spare own p a c ≡ 0 = rw z in
           rw (xs, n) (omega arith)
-      spends l {x} (loops k b z xs n) =
-          let h = subst (λ c. (top a .body < saying c .named) × (saying c .named < length p)) z (names-above (rw z)) in
-          let y = push-pend own p ok late a st u (standing (rw (q, z))) b (suc k) 0 (h .0) (h .1) in
-          let w = before (rw z) in
-          let v = weight (rw z) in
-          let r : cost own (tally own p) c ≡ own c + suc k * tally own p b = cost-is own (tally own p) c ∙ rw z in
-          let k = times-pred (suc k) (tally own p b) (omega arith) in
+      spends l {x} (enters k b z xs n) =
+          let h = subst (λ d. (top a .body < d) × (d < length p)) (z .body) (names-above (z .some)) in
+          let y = push-pend own p ok late a st u (standing (rw q (z .quiet))) b k 0 (h .0) (h .1) in
+          let w = before (z .quiet) in
+          let v = weight (z .quiet) in
+          let r : cost own (tally own p) c ≡ own c + (tally own p b + (k - 1) * tally own p b) = cost-is own (tally own p) c ∙ rw (z .body) (ap (λ n. own c + n) (z .often (tally own p b))) in
+          let o : spare own p a c ≡ 0 = rw (z .chosen) in
           rw (xs, n) (omega arith)
       spends l {x} (moves b g h t k xs n) =
           let y = past-left b (k .depth) (k .frames) (rw (k .status) (standing (rw q h))) (rw (k .status) u) g in
           let w = before h in
           let v = weight h in
-          let r : times c * tally own p (named c) ≡ 0 = rw t (zero-mul _) in
+          let r : times c * tally own p (named c) ≡ spare own p a c = rw t (skipped (skips a c) (tally own p (named c))) in
           rw (xs, n) (omega arith)
 
-      -- A breach leaves at least the command and an END undone.
-      pub fault-pend : ((c : Command) → 0 < own c) → isEnd c ≡ false → isNext c ≡ false → 2 ≤ Pend a
-      unfolding past cost
-      fault-pend w g n =
-          let b = standing (rw q n) in
-          let y = past-left a refl refl b u g in
-          let x = before n in
-          let r = pend-running own p late (past p a) u b in
-          omega (arith, w c, w (here p (top (past p a)) .command))
-
-      -- A fault at the END of a body above another leaves at least that END and the next command, of the body below or of the next run.
-      pub spoilt-pend : ((c : Command) → 0 < own c) → isEnd c ≡ true → 1 < a .depth → 2 ≤ Pend a
-      unfolding endOf again popped past cost isEnd isNext
-      spoilt-pend w l d =
-          let n : isNext c ≡ false = rw (eqb-true (opcode c) 0 l) in
-          let y = end-left l n in
-          let x = before n in
-          let k : endOf p a .status ≡ a .status = rw (lt-leb (a .depth) 1 d) (same (ltb 1 (top a .runs))) in
-          let r = pend-running own p late (endOf p a) (rw k u) (rw k (standing (rw q n))) in
-          omega (arith, w c, w (here p (top (endOf p a)) .command))
+      -- Whoever has not ended has something pending.
+      pend-some : ((c : Command) → 0 < own c) → 0 < late → (b : Activity) → isEnded (b .status) ≡ false → 0 < Pend b
+      unfolding cost
+      pend-some w l b e = go (decide (isAtBarrier (b .status)))
         where
-          same : (z : Bool) → cond z (again a) (popped p a) .status ≡ a .status
-          same true = refl
-          same false = refl
+          go : (isAtBarrier (b .status) ≡ true) ⊎ (isAtBarrier (b .status) ≡ false) → 0 < pend own p late b
+          go (inl m) = omega (arith, pend-met own p late b e m)
+          go (inr m) = omega (arith, pend-running own p late b e m, w (here p (top b) .command))
+
+      -- Where a step without a fault would not end its activity, a fault leaves more undone than that step takes and spares.
+      pub undone : ((c : Command) → 0 < own c) → 0 < late → late ≤ own Next → (isEnd c ≡ true → 1 < a .depth) → {x : Effect} → Kind p (envOf s) i a c x
+          → spent own late c (isAtBarrier (a .status)) + spare own p a c < Pend a
+      undone w o l d {x} k = omega (arith, spends l k, pend-some w o (x .self) (goes-on d k))

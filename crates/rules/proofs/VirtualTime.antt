@@ -23,7 +23,7 @@ use Rattle.rules.specs.Faults.{Env, faultFor}
 use Rattle.rules.specs.Effects.{stopped, endOf, again, popped, past, nextOf, clockedCount, Effect, pushed, child}
 use Rattle.rules.proofs.Tests.{decide, true-false}
 use Rattle.rules.proofs.Sums.{upd, upd-other, upd-same}
-use Rattle.rules.proofs.Shapes.{isNext, Alike, Replaced, dropped, resumed, created, Reheld, kept, replaced, Kind, ends, meets, forks, opens, loops, moves, born, OfChild}
+use Rattle.rules.proofs.Shapes.{isNext, Alike, Replaced, dropped, resumed, created, Reheld, kept, replaced, Kind, ends, meets, forks, opens, enters, moves, born, OfChild}
 use Rattle.rules.proofs.Holders.{EachHold, held-quiesced, held-revived, each-none, each-map, each-set, each-lent, lends}
 
 -- A hold of an activity whose time is v, where clocks below `made` are made; a free one is in phase 0.
@@ -214,7 +214,7 @@ module _ (p : Program) (e : Env) (base : ℕ → ℕ) (v i : ℕ) (a : Activity)
       rw (s, q) (fine-next p base′ v i a (clockedCount (e .clock) (x .clocked)) (keep-to _ (grows (x .clocked))) (isAtBarrier (a .status)))
   fine-self {c} {x} n (forks b m q s z) = rw (s, q) (fine-same _ base′ v i a (past p a) refl refl refl (keep-to _ (grows (x .clocked))))
   fine-self {c} {x} n (opens b q s m) = rw (s, q) (fine-same _ base′ v i a (pushed a b 0 (e .first)) refl refl refl (keep-to _ (grows (x .clocked))))
-  fine-self {c} {x} n (loops k b q s m) = rw (s, q) (fine-same _ base′ v i a (pushed a b (suc k) 0) refl refl refl (keep-to _ (grows (x .clocked))))
+  fine-self {c} {x} n (enters k b q s m) = rw (s, q .quiet) (fine-same _ base′ v i a (pushed a b k 0) refl refl refl (keep-to _ (grows (x .clocked))))
   fine-self {c} {x} n (moves b g h t k s m) =
       rw (s, h) (fine-same _ base′ v i b (past p b) refl refl refl (fine-alike (x .clocked) b (n h) k))
 

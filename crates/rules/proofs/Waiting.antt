@@ -8,7 +8,7 @@ use mathlib.Core.Logic.{_⊎_, inl, inr}
 use lib.ListN.{List·getD-eq-default}
 use lib.Dec.{eqb}
 use Rattle.program.specs.declared.command.Command.{Command}
-use Rattle.program.specs.declared.command.Command.the-variants.{End, Next, Clock, Resume, Drop, Async, Finish, Repeat, Acc, Offer, Read, Reset, Put, Fetch, Store, Add, Atom}
+use Rattle.program.specs.declared.command.Command.the-variants.{End, Next, Clock, Resume, Drop, Async, Finish, Repeat, Acc, Offer, Read, Reset, Put, Fetch, Store, Add, Atom, Choose}
 use Rattle.rules.specs.declared.state.Activity.{Activity}
 use Rattle.rules.specs.declared.state.State.{State}
 use Rattle.program.specs.Bodies.{Program}
@@ -120,6 +120,7 @@ waiting-for p s i x z l m (Fetch d) f e = absurd (true-false _ e refl)
 waiting-for p s i x z l m (Store d) f e = absurd (true-false _ e refl)
 waiting-for p s i x z l m (Add d) f e = absurd (true-false _ e refl)
 waiting-for p s i x z l m (Atom k) f e = absurd (true-false _ e refl)
+waiting-for p s i x z l m (Choose y) f e = absurd (true-false _ e refl)
 
 -- Who waits, waits at one of the three.
 waiting : (p : Program) (s : State) (i : ℕ) → Bounded s → i < s .activities → waits p s i ≡ true → Waits (view p s) i

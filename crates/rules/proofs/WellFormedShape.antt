@@ -7,10 +7,10 @@ use mathlib.Core.Bool.{Bool, true, false, cond, _&&_, not}
 use mathlib.Core.Path.{_≡_, refl}
 use mathlib.Core.Logic.{_⊎_, inl, inr}
 use lib.ListN.{set}
-use lib.Dec.{ltb, leb}
+use lib.Dec.{ltb, leb, eqb}
 use borrow.Author.Tests.{ltb-true, leb-false, eqb-false}
 use Rattle.program.specs.declared.command.Command.{Command}
-use Rattle.program.specs.declared.command.Command.the-variants.{End, Next, Clock, Resume, Drop, Async, Finish, Repeat, Acc, Offer, Read, Reset, Put, Fetch, Store, Add, Atom}
+use Rattle.program.specs.declared.command.Command.the-variants.{End, Next, Clock, Resume, Drop, Async, Finish, Repeat, Acc, Offer, Read, Reset, Put, Fetch, Store, Add, Atom, Choose}
 use Rattle.program.specs.Command.{opcode, isEnd}
 use Rattle.program.specs.Bodies.{Program}
 use Rattle.program.proofs.Shape.{Ranged}
@@ -25,11 +25,11 @@ use Rattle.rules.specs.State.{operatorOf, noFrame, noHold, noFrames, noH
 use Rattle.rules.specs.Clocks.{isLive, holds, quiesce, pass}
 use Rattle.rules.specs.Tree.{isFinish, inOwnFinish}
 use Rattle.rules.specs.Faults.{bit, lendsUnheld, lendsQuiesced, asyncFault, unbound, numberUnder, readFault, faultFor}
-use Rattle.rules.specs.Effects.{withRegister, stopped, past, pushed, again, popped, endOf, nextOf, repeatOf, child, newAccumulator, touch, touchAll, untouched, Spawned, nobody, one, Write, keep, make, offer, reset, Effect, alone, effectOf, failing, envOf}
+use Rattle.rules.specs.Effects.{withRegister, stopped, past, pushed, again, popped, endOf, nextOf, repeatOf, chooseOf, child, newAccumulator, touch, touchAll, untouched, Spawned, nobody, one, Write, keep, make, offer, reset, Effect, alone, effectOf, failing, envOf}
 use Rattle.rules.proofs.Tests.{and-not, and-false, cond-zero, true-false, decide}
 use Rattle.rules.proofs.Search.{someBelow-none}
 use Rattle.rules.proofs.Bodies.{moved}
-use Rattle.rules.proofs.WellFormedStack.{Ran, byFinish, byRepeat, level}
+use Rattle.rules.proofs.WellFormedStack.{Ran, byFinish, byRepeat, byChoose, level}
 
 -- How command o moves a stack, where `made` activities were spawned: a is before, b after.
 pub data Motion (p : Program) (made : ℕ) (o : Command) (a b : Activity) : Type 0 where
@@ -169,6 +169,23 @@ module _ (p : Program) (s : State) (i : ℕ) (a : Activity) (live : isEnded (a .
       go true = record { motion = goes refl refl refl refl; holding = passes refl refl; naming = keeps refl refl; spawner = refl; offspring = childless refl }
       go false = record { motion = stays refl refl refl refl; holding = quiesces refl refl; naming = keeps refl refl; spawner = refl; offspring = childless refl }
 
+  -- CHOOSE
+  of-choose : (c : ℕ) (inner : List Command) → a .status ≡ Running → Shape p s i a (Choose c) (effectOf p (envOf s) i a (Choose c) inner)
+  unfolding effectOf chooseOf pushed isEnd
+  of-choose c inner r = go (eqb (a .register) 0)
+    where
+      go : (x : Bool) → Shape p s i a (Choose c) (alone (cond x (past p a) (pushed a c 0 0)))
+      go true = simple a refl r refl refl refl refl refl _ refl refl refl refl
+      go false =
+          record {
+            motion =
+                begins (record { offset = 0; body = c; runs = 0; first = 0 }) refl (byChoose c refl refl refl refl) (λ q. absurd (true-false false q refl)) r refl refl;
+            holding = same refl refl;
+            naming = keeps refl refl;
+            spawner = refl;
+            offspring = childless refl;
+          }
+
   -- a name that is bound is an accumulator's
   number-made : (n : ℕ) → n < 8 → unbound a n ≡ false → numberUnder a n < s .accumulators
   number-made n l e = omega (arith, bounds n l, eqb-false (bound a n) 0 e)
@@ -265,3 +282,4 @@ module _ (p : Program) (s : State) (i : ℕ) (a : Activity) (live : isEnded (a .
   shape (Store d) inner b r e = simple (withRegister a (touch (envOf s .cell) (untouched a) (Store d) .register)) refl (still (Store d) b (λ q. omega arith)) refl refl refl refl refl _ refl refl refl refl
   shape (Add d) inner b r e = simple (withRegister a (touch (envOf s .cell) (untouched a) (Add d) .register)) refl (still (Add d) b (λ q. omega arith)) refl refl refl refl refl _ refl refl refl refl
   shape (Atom k) inner b r e = simple (withRegister a (touchAll (envOf s .cell) (untouched a) inner .register)) refl (still (Atom k) b (λ q. omega arith)) refl refl refl refl refl _ refl refl refl refl
+  shape (Choose c) inner b r e = of-choose c inner (still (Choose c) b (λ q. omega arith))

@@ -11,7 +11,7 @@ use lib.ListN.{length, getD}
 use lib.Dec.{ltb, leb, eqb}
 use borrow.Author.Tests.{ltb-true, ltb-false, lt-ltb, le-ltb, leb-true, le-leb, eqb-true, eq-eqb}
 use Rattle.program.specs.declared.command.Command.{Command}
-use Rattle.program.specs.declared.command.Command.the-variants.{End, Next, Clock, Resume, Drop, Async, Finish, Repeat, Acc, Offer, Read, Reset, Put, Fetch, Store, Add, Atom}
+use Rattle.program.specs.declared.command.Command.the-variants.{End, Next, Clock, Resume, Drop, Async, Finish, Repeat, Acc, Offer, Read, Reset, Put, Fetch, Store, Add, Atom, Choose}
 use Rattle.program.specs.Command.{names, named, isEnd}
 use Rattle.program.specs.Bodies.{Program}
 use Rattle.program.proofs.Shape.{Accepted}
@@ -27,10 +27,11 @@ use Rattle.rules.proofs.Search.{allBelow-at, allBelow-intro}
 
 -- WHAT RUNS A BODY
 
--- A frame that a FINISH or a REPEAT runs, where `made` activities were spawned.
+-- A frame that a FINISH, a REPEAT or a CHOOSE runs, where `made` activities were spawned.
 pub data Ran (made : ℕ) (o : Command) (f : Frame) : Type 0 where
   byFinish : (b : ℕ) → o ≡ Finish b → f .body ≡ b → f .runs ≡ 0 → f .first ≤ made → Ran made o f
   byRepeat : (n b : ℕ) → o ≡ Repeat n b → f .body ≡ b → 1 ≤ f .runs → f .runs ≤ n → f .first ≡ 0 → Ran made o f
+  byChoose : (b : ℕ) → o ≡ Choose b → f .body ≡ b → f .runs ≡ 0 → f .first ≡ 0 → Ran made o f
 
 -- what the test says
 pub ran : (made : ℕ) (o : Command) (f : Frame) → runBy made o f ≡ true → Ran made o f
@@ -59,6 +60,10 @@ ran made (Fetch d) f e = absurd (true-false false e refl)
 ran made (Store d) f e = absurd (true-false false e refl)
 ran made (Add d) f e = absurd (true-false false e refl)
 ran made (Atom k) f e = absurd (true-false false e refl)
+ran made (Choose b) f e =
+    let q = and-true (eqb (f .body) b) _ e in
+    let r = and-true (eqb (f .runs) 0) _ (q .1) in
+    byChoose b refl (eqb-true (f .body) b (q .0)) (eqb-true (f .runs) 0 (r .0)) (eqb-true (f .first) 0 (r .1))
 
 -- and back
 pub ran-back : {made : ℕ} {o : Command} {f : Frame} → Ran made o f → runBy made o f ≡ true
@@ -66,32 +71,38 @@ unfolding runBy
 ran-back {made} {o} {f} (byFinish b e p q r) = rw e (and-intro (eqb (f .body) b) _ (eq-eqb _ _ p) (and-intro (eqb (f .runs) 0) _ (eq-eqb _ _ q) (le-leb _ _ r)))
 ran-back {made} {o} {f} (byRepeat n b e p q r u) =
     rw e (and-intro (eqb (f .body) b) _ (eq-eqb _ _ p) (and-intro (leb 1 (f .runs)) _ (le-leb _ _ q) (and-intro (leb (f .runs) n) _ (le-leb _ _ r) (eq-eqb _ _ u))))
+ran-back {made} {o} {f} (byChoose b e p q r) = rw e (and-intro (eqb (f .body) b) _ (eq-eqb _ _ p) (and-intro (eqb (f .runs) 0) _ (eq-eqb _ _ q) (eq-eqb _ _ r)))
 
 -- only the body, the runs and the first number matter; more activities do no harm
 pub ran-same : {made : ℕ} {o : Command} {f : Frame} (made′ : ℕ) (g : Frame) → made ≤ made′ → g .body ≡ f .body → g .runs ≡ f .runs → g .first ≡ f .first → Ran made o f → Ran made′ o g
 ran-same made′ g l x y z (byFinish b e p q r) = byFinish b e (x ∙ p) (y ∙ q) (rw z (omega arith))
 ran-same made′ g l x y z (byRepeat n b e p q r u) = byRepeat n b e (x ∙ p) (rw y q) (rw y r) (z ∙ u)
+ran-same made′ g l x y z (byChoose b e p q r) = byChoose b e (x ∙ p) (y ∙ q) (z ∙ r)
 
 -- one run less, of several
 pub ran-less : {made : ℕ} {o : Command} {f : Frame} (g : Frame) → g .body ≡ f .body → g .runs ≡ f .runs - 1 → g .first ≡ f .first → 1 < f .runs → Ran made o f → Ran made o g
 ran-less g x y z l (byFinish b e p q r) = absurd (omega arith)
 ran-less g x y z l (byRepeat n b e p q r u) = byRepeat n b e (x ∙ p) (omega arith) (omega arith) (z ∙ u)
+ran-less g x y z l (byChoose b e p q r) = absurd (omega arith)
 
 -- what runs a body is no END
 pub ran-going : {made : ℕ} {o : Command} {f : Frame} → Ran made o f → isEnd o ≡ false
 unfolding isEnd
 ran-going (byFinish b e p q r) = rw e
 ran-going (byRepeat n b e p q r u) = rw e
+ran-going (byChoose b e p q r) = rw e
 
 -- and names it
 pub ran-names : {made : ℕ} {o : Command} {f : Frame} → Ran made o f → (names o ≡ true) × (named o ≡ f .body)
 ran-names (byFinish b e p q r) = rw e (names-is (Finish b), named-is (Finish b) ∙ sym p)
 ran-names (byRepeat n b e p q r u) = rw e (names-is (Repeat n b), named-is (Repeat n b) ∙ sym p)
+ran-names (byChoose b e p q r) = rw e (names-is (Choose b), named-is (Choose b) ∙ sym p)
 
 -- a body with a first number is run by a FINISH
 pub ran-first : {made : ℕ} {o : Command} {f : Frame} → Ran made o f → isFinish o ≡ true → (f .runs ≡ 0) × (f .first ≤ made)
 ran-first {o = o} (byFinish b e p q r) h = (q, r)
 ran-first {o = o} (byRepeat n b e p q r u) h = absurd (true-false (isFinish o) h (rw e))
+ran-first {o = o} (byChoose b e p q r) h = absurd (true-false (isFinish o) h (rw e))
 
 -- STACKS
 

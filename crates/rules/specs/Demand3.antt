@@ -1,7 +1,8 @@
 -- Demand 3 of the machine's brief, over runs as document 01 has them under "Runs": "Nobody who picks the order can bring an accepted table to a standstill; a run takes
--- exactly its counted work, or less with a fault; a quiescent phase stays so. One claim about the table and the whole list of calls, of any length."
--- Beside each field stands the sentence of the brief or of document 01 that it states; what neither says stands without quotation marks.
-use Prim.Native.Nat.{ℕ, _≤_, _<_}
+-- exactly its counted work, or less with a fault; a quiescent phase stays so. One claim about the table and the whole list of calls, of any length." Of the work document 02
+-- says, with CHOOSE: "A run without faults now takes at most its work, and a finished one exactly its work where each CHOOSE step taken in it ran its body."
+-- Beside each field stands the sentence of the brief or of a document that it states; what none of them says stands without quotation marks.
+use Prim.Native.Nat.{ℕ, _+_, _≤_, _<_}
 use mathlib.Core.List.{List, [], _∷_, _++_}
 use mathlib.Core.Bool.{Bool, true, false, _&&_}
 use mathlib.Core.Path.{_≡_}
@@ -13,7 +14,7 @@ use Rattle.rules.specs.declared.answer.Answer.the-variants.{Accepted, Re
 use Rattle.rules.specs.Clocks.{quiescent}
 use Rattle.rules.specs.Faults.{bit}
 use Rattle.rules.specs.Steps.{Limits, step, ready}
-use Rattle.rules.specs.Runs.{run, answers, isAccepted, taken, someFault, finished}
+use Rattle.rules.specs.Runs.{run, answers, isAccepted, taken, someFault, finished, spared, allRan}
 
 -- "No call of a run is answered with 1 to 13 or 17." What is left: a step, a fault, 14, 15 or 16.
 abbrev pub isOfRun : Answer → Bool
@@ -38,12 +39,14 @@ pub record Demand3 (l : Limits) (t order : List ℕ) : Type 0 where
   pub over : finished (run l t order) ≡ true → ready l t (run l t order) .set ≡ 0
   -- "The ready set is 64 bits, bit i for activity i, set where 14 to 16 don't apply." There a step is accepted: 17 does not come.
   pub steps : (i : ℕ) → bit (ready l t (run l t order) .set) i ≡ true → isAccepted (step l t (run l t order) i .answer) ≡ true
-  -- "17. The step would need .. more steps than the work; no state reached from a start meets this."
+  -- "A run without faults now takes at most its work": any run does.
   pub bounded : taken (answers l t order) ≤ workOf (programOf t)
-  -- "a run takes exactly its counted work": a finished one without a fault.
-  pub whole : finished (run l t order) ≡ true → someFault (answers l t order) ≡ false → taken (answers l t order) ≡ workOf (programOf t)
-  -- "or less with a fault": finished or not.
-  pub less : someFault (answers l t order) ≡ true → taken (answers l t order) < workOf (programOf t)
+  -- "and a finished one exactly its work where each CHOOSE step taken in it ran its body"
+  pub whole : finished (run l t order) ≡ true → someFault (answers l t order) ≡ false → allRan l t order ≡ true → taken (answers l t order) ≡ workOf (programOf t)
+  -- Whatever CHOOSE skipped: what a finished run without a fault took, and the work of the bodies that it skipped, are the work.
+  pub accounted : finished (run l t order) ≡ true → someFault (answers l t order) ≡ false → taken (answers l t order) + spared l t order ≡ workOf (programOf t)
+  -- "or less with a fault": finished or not, and also with the work of the bodies that it skipped.
+  pub less : someFault (answers l t order) ≡ true → taken (answers l t order) + spared l t order < workOf (programOf t)
   -- "a quiescent phase stays so": quiescent at a point, on a clock made by then, it is so at every later point.
   pub stable : (before after : List ℕ) → before ++ after ≡ order → (c p : ℕ) → c < run l t before .clocks → quiescent (run l t before) c p ≡ true
       → quiescent (run l t order) c p ≡ true

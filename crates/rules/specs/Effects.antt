@@ -5,7 +5,7 @@ use mathlib.Core.Bool.{Bool, true, false, cond}
 use lib.ListN.{getD, set}
 use lib.Dec.{ltb, leb, eqb}
 use Rattle.program.specs.declared.command.Command.{Command}
-use Rattle.program.specs.declared.command.Command.the-variants.{End, Next, Clock, Resume, Drop, Async, Finish, Repeat, Acc, Offer, Read, Reset, Put, Fetch, Store, Add, Atom}
+use Rattle.program.specs.declared.command.Command.the-variants.{End, Next, Clock, Resume, Drop, Async, Finish, Repeat, Acc, Offer, Read, Reset, Put, Fetch, Store, Add, Atom, Choose}
 use Rattle.program.specs.Bodies.{Program}
 use Rattle.rules.specs.declared.state.Status.{Status}
 use Rattle.rules.specs.declared.state.Status.the-variants.{Running, AtBarrier, Ended}
@@ -109,7 +109,7 @@ popped p a = past p (withFrames a (a .depth - 1) (set (a .frames) (a .depth - 1)
 -- COMMANDS
 
 -- "END of a spawned body, or of body 0, ends the activity and drops its clocks. END of a FINISH body .. goes on after the command. END of a REPEAT
--- body runs it again until n runs are done."
+-- body runs it again until n runs are done." Of CHOOSE: "its END is one step".
 unfoldable pub endOf : Program → Activity → Activity
 endOf p a =
     let over = stopped a Ended in
@@ -126,6 +126,13 @@ nextOf p a true = past p (withHolds a Running (map pass (a .holds)))
 unfoldable pub repeatOf : Program → Activity → ℕ → ℕ → Activity
 repeatOf p a zero b = past p a
 repeatOf p a (suc n) b = pushed a b (suc n) 0
+
+-- "CHOOSE b runs b once if the hand is not 0, and takes one step in either case."
+unfoldable pub chooseOf : Program → Activity → ℕ → Activity
+chooseOf p a b =
+    let skipped = past p a in
+    let begun = pushed a b 0 0 in
+    cond (eqb (a .register) 0) skipped begun
 
 -- "the clocks of m under the same names, at the spawner's phase, live"; the first hold has name k
 unfoldable pub lent : ℕ → ℕ → List Hold → List Hold
@@ -198,6 +205,7 @@ touch cell t (Fetch d) = record { register = cellAfter cell (t .stores) d; store
 touch cell t (Store d) = storing t d (t .register)
 touch cell t (Add d) = storing t d ((cellAfter cell (t .stores) d + t .register) % 4294967296)
 touch cell t (Atom k) = t
+touch cell t (Choose b) = t
 
 -- ATOM k: "the next k commands, all 0D to 0F, in one step"
 unfoldable pub touchAll : (ℕ → ℕ) → Touch → List Command → Touch
@@ -262,6 +270,7 @@ effectOf p e i a (Fetch d) inner = touching p a (touch (e .cell) (untouched a) (
 effectOf p e i a (Store d) inner = touching p a (touch (e .cell) (untouched a) (Store d))
 effectOf p e i a (Add d) inner = touching p a (touch (e .cell) (untouched a) (Add d))
 effectOf p e i a (Atom k) inner = touching p a (touchAll (e .cell) (untouched a) inner)
+effectOf p e i a (Choose b) inner = alone (chooseOf p a b)
 
 -- "A fault ends the activity in that step, drops its clocks, changes nothing else but the steps taken"
 abbrev pub failing : Activity → Status → Effect

@@ -3,7 +3,7 @@ use Prim.Native.Nat.{ℕ, _-_, _/_, _%_, _^_}
 use mathlib.Core.Bool.{Bool, cond, _&&_, not}
 use lib.Dec.{ltb, eqb}
 use Rattle.program.specs.declared.command.Command.{Command}
-use Rattle.program.specs.declared.command.Command.the-variants.{End, Next, Clock, Resume, Drop, Async, Finish, Repeat, Acc, Offer, Read, Reset, Put, Fetch, Store, Add, Atom}
+use Rattle.program.specs.declared.command.Command.the-variants.{End, Next, Clock, Resume, Drop, Async, Finish, Repeat, Acc, Offer, Read, Reset, Put, Fetch, Store, Add, Atom, Choose}
 use Rattle.program.specs.Command.{isEnd}
 use Rattle.program.specs.Bodies.{Program}
 use Rattle.rules.specs.declared.state.Fault.the-variants.{F1, F2, F3, F4, F5, F6, F7}
@@ -70,6 +70,7 @@ faultFor p e i a (Fetch d) = 0
 faultFor p e i a (Store d) = 0
 faultFor p e i a (Add d) = 0
 faultFor p e i a (Atom k) = 0
+faultFor p e i a (Choose b) = 0
 
 -- "an activity inside has faulted"
 unfoldable pub faultedInside : State → ℕ → ℕ → ℕ → Bool

@@ -2,7 +2,7 @@
 use Prim.Native.Nat.{ℕ}
 use mathlib.Core.Bool.{Bool, false, _&&_, not}
 use Rattle.program.specs.declared.command.Command.{Command}
-use Rattle.program.specs.declared.command.Command.the-variants.{End, Next, Clock, Resume, Drop, Async, Finish, Repeat, Acc, Offer, Read, Reset, Put, Fetch, Store, Add, Atom}
+use Rattle.program.specs.declared.command.Command.the-variants.{End, Next, Clock, Resume, Drop, Async, Finish, Repeat, Acc, Offer, Read, Reset, Put, Fetch, Store, Add, Atom, Choose}
 use Rattle.program.specs.Bodies.{Program}
 use Rattle.rules.specs.declared.state.Activity.{Activity}
 use Rattle.rules.specs.declared.state.State.{State}
@@ -42,6 +42,7 @@ waitsFor p s i a (Fetch d) x = false
 waitsFor p s i a (Store d) x = false
 waitsFor p s i a (Add d) x = false
 waitsFor p s i a (Atom k) x = false
+waitsFor p s i a (Choose b) x = false
 
 -- "The waiting test shall give a number in place of a yes or no: the different activities behind at a meeting, those inside a finish not ended, or the descendants
 -- not ended."

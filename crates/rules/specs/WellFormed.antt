@@ -5,7 +5,7 @@ use mathlib.Core.List.{[]}
 use lib.ListN.{length, getD}
 use lib.Dec.{ltb, leb, eqb}
 use Rattle.program.specs.declared.command.Command.{Command}
-use Rattle.program.specs.declared.command.Command.the-variants.{End, Next, Clock, Resume, Drop, Async, Finish, Repeat, Acc, Offer, Read, Reset, Put, Fetch, Store, Add, Atom}
+use Rattle.program.specs.declared.command.Command.the-variants.{End, Next, Clock, Resume, Drop, Async, Finish, Repeat, Acc, Offer, Read, Reset, Put, Fetch, Store, Add, Atom, Choose}
 use Rattle.program.specs.Command.{opcode}
 use Rattle.program.specs.Bodies.{Program, isPlace}
 use Rattle.program.specs.Count.{workOf}
@@ -51,8 +51,9 @@ isNoActivity a =
 
 -- STACKS
 
--- The body above a FINISH or REPEAT: "a repeat has 0 runs left or more than its n (the run under way counts as left)", "a stacked body is not the one
--- run by the FINISH or REPEAT of the body below it", "an unmade thing is named", "an unused entry is not 0" (runs of a FINISH body, first of others).
+-- The body above a FINISH, REPEAT or CHOOSE: "a repeat has 0 runs left or more than its n (the run under way counts as left)", "a stacked body is not the one
+-- run by the FINISH or REPEAT of the body below it", "an unmade thing is named", "an unused entry is not 0" (runs of a FINISH or CHOOSE body, first of a REPEAT or
+-- CHOOSE body). CHOOSE: "Number 13 takes it with FINISH and REPEAT."
 unfoldable pub runBy : ℕ → Command → Frame → Bool
 runBy made End f = false
 runBy made Next f = false
@@ -71,6 +72,7 @@ runBy made (Fetch d) f = false
 runBy made (Store d) f = false
 runBy made (Add d) f = false
 runBy made (Atom k) f = false
+runBy made (Choose b) f = eqb (f .body) b && (eqb (f .runs) 0 && eqb (f .first) 0)
 
 -- "a place is no command of its body (the k commands belong to their ATOM)"
 unfoldable pub isPlaced : Program → Frame → Bool
