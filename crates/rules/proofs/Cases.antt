@@ -7,6 +7,7 @@ use Rattle.rules.specs.CasesStates.{allUnfit, breaks, allBreak, broken, 
 use Rattle.rules.specs.CasesCalls.{startsSo, allStart, started, answersSo, allSo, reader, reading, lined, finish, handMade, allFault, breaches, rowsBegin, shows, allShow, renamed, cornered, sheets, quietFrom, allQuiet, quiets}
 use Rattle.rules.specs.CasesAwaited.{waitsAlong, waitsSo, allWait, waited, countsSo, allCount, standingLine, asked}
 use Rattle.rules.specs.CasesPassedOn.{passedOn, lost, handedOn}
+use Rattle.rules.specs.CasesChosen.{chosen, chosenWork, sparesSo, allSpare, sparing, underChoose, choosing, unawaited}
 use Rattle.rules.specs.CasesRuns.{goes, goesSo, allGo, naming, faulting, affected}
 use Rattle.rules.specs.CasesValues.{beginsWith, leaves, allLeave, valued}
 use Rattle.rules.specs.Cases.{numbered, hasFault, accepts, holdsFor, allHold, marked, unfinished, answersBy, stateBy, answersAs, allAnswer, own, linesFrom, printed, walkPrints}
@@ -14,7 +15,7 @@ use Rattle.rules.proofs.Opened.{rules-opened}
 
 -- To name this on an `unfolding` line is to open the rules and the cases, for computing with them.
 unfoldable pub opened : Bool
-unfolding rules-opened numbered hasFault accepts holdsFor allHold marked unfinished answersBy stateBy answersAs allAnswer own beginsWith leaves allLeave valued activityNumbers sameActivities sharedNumbers sameState activity written withActs withAccs withCounts change changeAcc nest nested pair paired crowd crowded deep deepest atom standing goes goesSo allGo naming faulting affected allUnfit breaks allBreak broken stacked every unrun highest mainly over unmade spawned last startsSo allStart started answersSo allSo reader reading lined finish handMade allFault breaches rowsBegin shows allShow renamed cornered sheets quietFrom allQuiet quiets linesFrom printed walkPrints waitsAlong waitsSo allWait waited countsSo allCount standingLine asked passedOn lost handedOn
+unfolding rules-opened numbered hasFault accepts holdsFor allHold marked unfinished answersBy stateBy answersAs allAnswer own beginsWith leaves allLeave valued activityNumbers sameActivities sharedNumbers sameState activity written withActs withAccs withCounts change changeAcc nest nested pair paired crowd crowded deep deepest atom standing goes goesSo allGo naming faulting affected allUnfit breaks allBreak broken stacked every unrun highest mainly over unmade spawned last startsSo allStart started answersSo allSo reader reading lined finish handMade allFault breaches rowsBegin shows allShow renamed cornered sheets quietFrom allQuiet quiets linesFrom printed walkPrints waitsAlong waitsSo allWait waited countsSo allCount standingLine asked passedOn lost handedOn chosen chosenWork sparesSo allSpare sparing underChoose choosing unawaited
 opened = true
 
 marked-hold : allHold marked ≡ true
@@ -101,6 +102,22 @@ states-pass-on : allSo handedOn ≡ true
 unfolding opened
 states-pass-on = refl
 
+runs-choose : allGo chosen ≡ true
+unfolding opened
+runs-choose = refl
+
+work-chosen : allHold chosenWork ≡ true
+unfolding opened
+work-chosen = refl
+
+runs-spare : allSpare sparing ≡ true
+unfolding opened
+runs-spare = refl
+
+states-choose : breaks underChoose && (allSo choosing && allCount unawaited) ≡ true
+unfolding opened
+states-choose = refl
+
 -- Every case of every list.
 pub cases-hold : allHold marked
     && ((allHold unfinished && walkPrints)
@@ -112,6 +129,6 @@ pub cases-hold : allHold marked
     && (allGo affected
     && (allBreak broken
     && ((breaks stacked && (breaks unrun && (breaks highest && (breaks mainly && (breaks over && (breaks unmade && (breaks spawned && breaks last)))))))
-    && (allStart started && ((allSo handMade && allFault breaches) && ((allShow sheets && allQuiet quiets) && ((allWait waited && allCount asked) && (allGo passedOn && (allHold lost && allSo handedOn))))))))))))))) ≡ true
+    && (allStart started && ((allSo handMade && allFault breaches) && ((allShow sheets && allQuiet quiets) && ((allWait waited && allCount asked) && ((allGo passedOn && (allHold lost && allSo handedOn)) && (allGo chosen && (allHold chosenWork && (allSpare sparing && (breaks underChoose && (allSo choosing && allCount unawaited))))))))))))))))))) ≡ true
 cases-hold =
-    rw (marked-hold, own-hold, walk-prints, enums-numbered, own-answer, values-left, names-go, faults-go, effects-go, states-break, parts-break, starts-hold, states-answer, states-fault, sheets-show, phases-quiet, runs-wait, states-wait, runs-pass-on, work-lost, states-pass-on)
+    rw (marked-hold, own-hold, walk-prints, enums-numbered, own-answer, values-left, names-go, faults-go, effects-go, states-break, parts-break, starts-hold, states-answer, states-fault, sheets-show, phases-quiet, runs-wait, states-wait, runs-pass-on, work-lost, states-pass-on, runs-choose, work-chosen, runs-spare, states-choose)

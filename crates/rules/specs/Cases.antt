@@ -108,7 +108,7 @@ walkOrder = 0 ∷ 0 ∷ 0 ∷ 0 ∷ 1 ∷ 0 ∷ 0 ∷ 1 ∷ 1 ∷ 0 ∷ []
 unfoldable pub walkPrints : Bool
 walkPrints = sameLists (linesFrom 0 walkOrder (answers base walkTable walkOrder) (awaiteds base walkTable walkOrder)) printed
 
--- MARKED P
+-- MARKED P: "document 01's case 01 11 now gives 4, and 01 13 joins the P cases with 3"
 
 unfoldable pub marked : List Case
 marked =
@@ -119,7 +119,8 @@ marked =
     }
     ∷ record { table = 0x01 ∷ 0x00 ∷ []; order = 0 ∷ []; expected = record { number = 0; work = 1; activities = 1; answers = 0 ∷ []; taken = 1; ended = 1; spawned = 1 } }
     ∷ turnedDown (0x00 ∷ 0x00 ∷ []) 2
-    ∷ turnedDown (0x01 ∷ 0x11 ∷ []) 3
+    ∷ turnedDown (0x01 ∷ 0x11 ∷ []) 4
+    ∷ turnedDown (0x01 ∷ 0x13 ∷ []) 3
     ∷ turnedDown (0x01 ∷ 0x01 ∷ []) 4
     ∷ turnedDown (0x01 ∷ 0x02 ∷ 0x08 ∷ 0x00 ∷ []) 5
     ∷ turnedDown (0x01 ∷ 0x06 ∷ 0x00 ∷ 0x00 ∷ []) 6

@@ -143,7 +143,7 @@ unfoldable pub allCount : List Asked → Bool
 allCount [] = true
 allCount (c ∷ cs) = let r = allCount cs in countsSo c && r
 
-abbrev asks : List ℕ → State → ℕ → ℕ → ℕ → Asked
+abbrev pub asks : List ℕ → State → ℕ → ℕ → ℕ → Asked
 asks table s i number count = record { table = table; state = s; activity = i; number = number; count = count }
 
 -- Main at a READ of its own, with three children that have not ended.
@@ -157,7 +157,7 @@ standingLine main = withCounts 0 64 0 0 (withActs (main ∷ listFrom 63 0 (λ i.
 unfoldable pub asked : List Asked
 asked =
     -- The table's number, 13, 14 and 15 have 0, in states where main waits or would.
-    asks (0x01 ∷ 0x11 ∷ []) paired 0 3 0
+    asks (0x01 ∷ 0x12 ∷ []) paired 0 3 0
     ∷ asks pair (withCounts 9 2 1 0 paired) 0 13 0
     ∷ asks reader (reading same) 2 14 0
     ∷ asks reader (reading (λ a. stopped a Ended)) 0 15 0

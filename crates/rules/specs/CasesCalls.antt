@@ -242,7 +242,7 @@ sheets =
     }
     -- "a standing sheet of zeros"
     ∷ record { table = pair; state = withCounts 9 2 1 0 paired; number = 13; rows = [] }
-    ∷ record { table = 0x01 ∷ 0x11 ∷ []; state = paired; number = 3; rows = [] }
+    ∷ record { table = 0x01 ∷ 0x12 ∷ []; state = paired; number = 3; rows = [] }
     ∷ []
 
 -- QUIESCENT PHASES

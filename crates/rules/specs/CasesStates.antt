@@ -95,13 +95,13 @@ stacked =
     ∷ change 0 (withSpawner 1)
     ∷ [])
 
--- Body 0: NEXT, CLOCK 1, RESUME 1, DROP 1, ASYNC 1 0, ACC 1 0, OFFER 1, READ 1, RESET 1, PUT 0, FETCH 1, STORE 1, ADD 1, ATOM 1 of FETCH 1, FINISH 1, REPEAT 2 1, END.
+-- Body 0: NEXT, CLOCK 1, RESUME 1, DROP 1, ASYNC 1 0, ACC 1 0, OFFER 1, READ 1, RESET 1, PUT 0, FETCH 1, STORE 1, ADD 1, ATOM 1 of FETCH 1, FINISH 1, REPEAT 2 1, CHOOSE 1, END.
 -- Body 1 is a bare END. It may stand above FINISH, and above no other as a FINISH body does.
 unfoldable pub every : List ℕ
 every =
     0x02 ∷ 0x01 ∷ 0x02 ∷ 0x01 ∷ 0x03 ∷ 0x01 ∷ 0x04 ∷ 0x01 ∷ 0x05 ∷ 0x01 ∷ 0x00 ∷ 0x08 ∷ 0x01 ∷ 0x00 ∷ 0x09 ∷ 0x01 ∷ 0x0A ∷ 0x01 ∷ 0x0B ∷ 0x01
     ∷ 0x0C ∷ 0x00 ∷ 0x00 ∷ 0x00 ∷ 0x00 ∷ 0x0D ∷ 0x01 ∷ 0x0E ∷ 0x01 ∷ 0x0F ∷ 0x01 ∷ 0x10 ∷ 0x01 ∷ 0x0D ∷ 0x01 ∷ 0x06 ∷ 0x01 ∷ 0x07 ∷ 0x02 ∷ 0x01
-    ∷ 0x00 ∷ 0x00 ∷ []
+    ∷ 0x11 ∷ 0x01 ∷ 0x00 ∷ 0x00 ∷ []
 
 -- Activity 63 on body 1, above the command at a place of body 0.
 abbrev above : ℕ → State
@@ -112,7 +112,7 @@ unrun =
     record {
       table = every;
       fit = above 34;
-      unfit = map above (0 ∷ 1 ∷ 3 ∷ 5 ∷ 7 ∷ 10 ∷ 13 ∷ 15 ∷ 17 ∷ 19 ∷ 24 ∷ 26 ∷ 28 ∷ 30 ∷ 36 ∷ 39 ∷ []);
+      unfit = map above (0 ∷ 1 ∷ 3 ∷ 5 ∷ 7 ∷ 10 ∷ 13 ∷ 15 ∷ 17 ∷ 19 ∷ 24 ∷ 26 ∷ 28 ∷ 30 ∷ 36 ∷ 39 ∷ 41 ∷ []);
     }
 
 -- Sixteen bodies on a stack: what may be wrong with the last, and below it.

@@ -19,3 +19,4 @@ pub mod CasesStates
 pub mod CasesCalls
 pub mod CasesAwaited
 pub mod CasesPassedOn
+pub mod CasesChosen
