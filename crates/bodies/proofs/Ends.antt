@@ -6,26 +6,26 @@ use mathlib.Core.Path.{_≡_, refl, sym, ap, _∙_, subst}
 use mathlib.Core.List.{List}
 use mathlib.Core.Bool.{Bool, true, false, cond}
 use lib.Seq.{getD-set-other}
-use lib.Dec.{leb}
-use borrow.Author.Tests.{le-leb, lt-leb, lt-ltb, le-ltb}
+use lib.Dec.{leb, eqb}
+use borrow.Author.Tests.{le-leb, lt-leb, lt-ltb, le-ltb, ne-eqb}
 use Rattle.program.specs.Command.{isEnd, width, held}
 use Rattle.program.specs.Bodies.{Program, programOf}
+use Rattle.program.specs.Scan.{scan}
 use Rattle.program.specs.declared.command.Command.{Command}
-use Rattle.program.specs.declared.command.Command.the-variants.{End, Finish, Repeat}
+use Rattle.program.specs.declared.command.Command.the-variants.{End, Finish, Repeat, Choose}
 use Rattle.program.proofs.ShapeRows.{span-is}
 use Rattle.rules.specs.declared.state.Status.the-variants.{Ended}
 use Rattle.rules.specs.declared.state.Frame.{Frame}
 use Rattle.rules.specs.declared.state.Activity.{Activity}
 use Rattle.rules.specs.declared.state.State.{State}
 use Rattle.rules.specs.State.{noFrame, act, frame, top}
-use Rattle.rules.specs.Tree.{here, nextOffset, isFinish}
+use Rattle.rules.specs.Tree.{here, nextOffset}
 use Rattle.rules.specs.WellFormed.{isPlaced}
 use Rattle.rules.specs.Faults.{faultFor, spoilt}
 use Rattle.rules.specs.Steps.{fault}
 use Rattle.rules.specs.Effects.{alone, stopped, withTop, past, again, popped, endOf, effectOf}
-use Rattle.rules.proofs.WellFormedStack.{Ran, byFinish, byRepeat, ran-going, Stack}
+use Rattle.rules.proofs.WellFormedStack.{Ran, byFinish, byRepeat, byChoose, ran-going, Stack}
 use Rattle.rules.proofs.WellFormedFacts.{facts}
-use Rattle.places.specs.Known.{Known}
 use Rattle.moves.specs.Exceeding.{overfull}
 use Rattle.places.proofs.Places.{next-is, next-small}
 use Rattle.fields.specs.Lent.{Lent, ReadsAct, WritesAct, withAct, withSteps, withFrame, withDepth, onward}
@@ -53,15 +53,16 @@ unfolding withAct
 again-done put g = record { number = g .number; reruns = λ s l j h room. g .counts _ (put h .writes s l j) room }
 
 -- the bytes of what runs a body
-size-of : {made : ℕ} {o : Command} {f : Frame} → Ran made o f → width o + 2 * held o ≡ cond (isFinish o) 2 3
-size-of (byFinish b e p q r) = rw e (span-is (Finish b))
-size-of (byRepeat n b e p q r u) = rw e (span-is (Repeat n b))
+size-of : {made : ℕ} {o : Command} {f : Frame} → Ran made o f → width o + 2 * held o ≡ cond (eqb (f .runs) 0) 2 3
+size-of (byFinish b e p q r) = rw (e, q) (span-is (Finish b))
+size-of {f = f} (byRepeat n b e p q r u) = rw (e, ne-eqb (f .runs) 0 (λ z. omega arith)) (span-is (Repeat n b))
+size-of (byChoose b e p q r) = rw (e, q) (span-is (Choose b))
 
 -- A fault is passed on.
 pub passed-on : {p : Program} {s : State} {i work : ℕ} → Standing p s i work End → spoilt p s i (act s i) End ≡ true → fault p s i ≡ 8
 passed-on w e = fault-at w ∙ rw e
 
-module _ {t starts b : List ℕ} {s : State} {i work d : ℕ} (k : Known t starts) (l : Lent b s) (w : Standing (programOf t) s i work End) (left : false ≡ leb work (s .steps))
+module _ (t : List ℕ) {b : List ℕ} {s : State} {i work d : ℕ} (k : scan t ≡ 0) (l : Lent b s) (w : Standing (programOf t) s i work End) (left : false ≡ leb work (s .steps))
     (deep : ReadsAct (λ (a : Activity). a .depth) b i d) (none : spoilt (programOf t) s i (act s i) End ≡ false) where
   depth : d ≡ act s i .depth
   depth = deep .reads s l (few w)
@@ -103,34 +104,36 @@ module _ {t starts b : List ℕ} {s : State} {i work d : ℕ} (k : Known t start
         after (again (act s i)) q (rw (depth, upper) at (g .reruns s l (few w) low (steps-room w left))) (g .number) refl
 
     -- what stands below
-    module _ {g : Frame} (look : d - 1 - 1 < 16 → ReadsAct (λ (a : Activity). frame a (d - 1 - 1)) b i g) where
-      under : g ≡ frame (act s i) (act s i .depth - 1 - 1)
-      under = look (let m = low in omega arith) .reads s l (few w) ∙ rw depth
+    abbrev under : Frame
+    under = frame (act s i) (act s i .depth - 1 - 1)
 
-      top-is : top (lower (act s i)) ≡ g
-      top-is = getD-set-other (act s i .frames) (act s i .depth - 1) (act s i .depth - 1 - 1) noFrame noFrame (λ q. let e = depth in omega arith) ∙ sym under
+    top-is : top (lower (act s i)) ≡ under
+    top-is = getD-set-other (act s i .frames) (act s i .depth - 1) (act s i .depth - 1 - 1) noFrame noFrame (λ q. let e = depth in omega arith)
 
-      placed : isPlaced (programOf t) g ≡ true
-      placed = rw under (stack .placed (act s i .depth - 1 - 1) (let e = depth in omega arith))
+    placed : isPlaced (programOf t) under ≡ true
+    placed = stack .placed (act s i .depth - 1 - 1) (let e = depth in omega arith)
 
-      runs-it : Ran (s .activities) (here (programOf t) g .command) (frame (act s i) (suc (act s i .depth - 1 - 1)))
-      runs-it = rw under (stack .stacked (act s i .depth - 1 - 1) (let e = depth in omega arith) .by)
+    runs-it : Ran (s .activities) (here (programOf t) under .command) f
+    runs-it =
+        let e = depth in
+        let z : suc (act s i .depth - 1 - 1) ≡ act s i .depth - 1 = omega arith in
+        rw upper
+        (subst (λ (n : ℕ). Ran (s .activities) (here (programOf t) under .command) (frame (act s i) n)) z (stack .stacked (act s i .depth - 1 - 1) (omega arith) .by))
 
-      pub popped-out : {b₁ : List ℕ} {x y : Bool} {size r : ℕ} → f .runs ≤ 1 → (Known t starts → isPlaced (programOf t) g ≡ true → x ≡ isFinish (here (programOf t) g .command)) → x ≡ y
-          → cond y 2 3 ≡ size → Pops b b₁ i d size r → Turned (programOf t) s i b₁ r
-      unfolding endOf popped past withAct
-      popped-out {b₁} {x} {y} {size} {r} once test e z o =
-          let goes : isEnd (here (programOf t) g .command) ≡ false = ran-going runs-it in
-          let n : nextOffset (programOf t) g ≡ g .offset + size =
-          next-is t (k .scanned) g placed goes
-          ∙ add-assoc (g .offset) (width (here (programOf t) g .command)) (2 * held (here (programOf t) g .command))
-          ∙ rw (size-of runs-it, sym (test k placed), e, z) in
-          let small = next-small t (k .scanned) g placed goes in
-          let fits : top (lower (act s i)) .offset + size < 2 ^ 16 = rw top-is (omega arith) in
-          let q : endOf (programOf t) (act s i) ≡ popped (programOf t) (act s i) =
-          let e = depth in
-          rw (lt-leb (act s i .depth) 1 (omega arith), le-ltb 1 (top (act s i) .runs) (rw (← upper) once)) in
-          let v : top (lower (act s i)) .offset + size ≡ nextOffset (programOf t) (top (lower (act s i))) = rw top-is (sym n) in
-          let m = o .pops s l (few w) (steps-room w left) depth h (rw depth (shallow w)) fits in
-          after (popped (programOf t) (act s i)) q
-          (subst (λ (j : ℕ). Lent b₁ (withSteps (withAct s i (withTop (lower (act s i)) (onward (top (lower (act s i))) j))) (s .steps + 1))) v m) (o .number) refl
+    pub popped-out : {b₁ : List ℕ} {size r : ℕ} → f .runs ≤ 1 → cond (eqb (f .runs) 0) 2 3 ≡ size → Pops b b₁ i d size r → Turned (programOf t) s i b₁ r
+    unfolding endOf popped past withAct
+    popped-out {b₁} {size} {r} once z o =
+        let goes : isEnd (here (programOf t) under .command) ≡ false = ran-going runs-it in
+        let n : nextOffset (programOf t) under ≡ under .offset + size =
+        next-is t k under placed goes
+        ∙ add-assoc (under .offset) (width (here (programOf t) under .command)) (2 * held (here (programOf t) under .command))
+        ∙ rw (size-of runs-it, z) in
+        let small = next-small t k under placed goes in
+        let fits : top (lower (act s i)) .offset + size < 2 ^ 16 = rw top-is (omega arith) in
+        let q : endOf (programOf t) (act s i) ≡ popped (programOf t) (act s i) =
+        let e = depth in
+        rw (lt-leb (act s i .depth) 1 (omega arith), le-ltb 1 (top (act s i) .runs) (rw (← upper) once)) in
+        let v : top (lower (act s i)) .offset + size ≡ nextOffset (programOf t) (top (lower (act s i))) = rw top-is (sym n) in
+        let m = o .pops s l (few w) (steps-room w left) depth h (rw depth (shallow w)) fits in
+        after (popped (programOf t) (act s i)) q
+        (subst (λ (j : ℕ). Lent b₁ (withSteps (withAct s i (withTop (lower (act s i)) (onward (top (lower (act s i))) j))) (s .steps + 1))) v m) (o .number) refl

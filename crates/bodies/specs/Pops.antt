@@ -5,6 +5,7 @@ use mathlib.Core.List.{List}
 use lib.ListN.{set}
 use mathlib.Core.Bool.{Bool}
 use Rattle.program.specs.Bodies.{programOf}
+use Rattle.program.specs.Scan.{scan}
 use Rattle.program.specs.declared.command.Command.the-variants.{End}
 use Rattle.rules.specs.declared.state.Frame.{Frame}
 use Rattle.rules.specs.declared.state.Activity.{Activity}
@@ -12,7 +13,6 @@ use Rattle.rules.specs.declared.state.State.{State}
 use Rattle.rules.specs.State.{noFrame, act, top}
 use Rattle.rules.specs.Faults.{spoilt}
 use Rattle.rules.specs.Effects.{withFrames, withTop}
-use Rattle.places.specs.Known.{Known}
 use Rattle.fields.specs.Lent.{Lent, withAct, withSteps, withFrame, onward}
 use Rattle.moves.specs.Moves.{Standing, Turned}
 
@@ -36,5 +36,5 @@ pub record Reruns (f : Frame) (b c : List ℕ) (i at r : ℕ) : Type 0 where
   pub reruns : (s : State) → Lent b s → i < 64 → at < 16 → s .steps < 65535 → Lent c (withSteps (withAct s i (withFrame (act s i) at (rerun f))) (s .steps + 1))
 
 -- END, told whether one inside the FINISH body that ends has faulted.
-pub record Ends (t starts : List ℕ) (faulted : Bool) (b c : List ℕ) (work i r : ℕ) : Type 0 where
-  pub turns : Known t starts → (s : State) → Lent b s → Standing (programOf t) s i work End → faulted ≡ spoilt (programOf t) s i (act s i) End → Turned (programOf t) s i c r
+pub record Ends (faulted : Bool) (b c : List ℕ) (work i r : ℕ) : Type 0 where
+  pub turns : (t : List ℕ) → scan t ≡ 0 → (s : State) → Lent b s → Standing (programOf t) s i work End → faulted ≡ spoilt (programOf t) s i (act s i) End → Turned (programOf t) s i c r

@@ -11,7 +11,6 @@ use moves::go_on;
 use moves::is_spent;
 use moves::stop;
 use parts::empty::no_frame;
-use places::is_finish;
 use rules::state::Fault;
 use rules::state::Frame;
 use rules::state::Status;
@@ -48,17 +47,10 @@ fn again(state: &mut [u8], i: usize, at: usize, f: Frame) -> u8
     counted(state)
 }
 
-// END: of the lowest body it ends the activity; a body with runs left runs again; any other is left, and FINISH is 2 bytes, REPEAT 3. Where one inside the FINISH body
-// that ends has faulted, the fault is passed on.
-pub fn end(
-    table: &[u8],
-    starts: &[usize],
-    work: u64,
-    state: &mut [u8],
-    i: usize,
-    faulted: bool,
-) -> u8
-    ensures { λ r. ⌜ Ends (now (table .entry)) (now (starts .entry)) faulted (now (state .entry)) (now (state .exit)) work i r ⌝ }
+// END: of the lowest body it ends the activity; a body with runs left runs again; any other is left. A body in its last run is a REPEAT's, which is 3 bytes; one without
+// runs is that of a FINISH or a CHOOSE, which are 2. Where one inside the FINISH body that ends has faulted, the fault is passed on.
+pub fn end(work: u64, state: &mut [u8], i: usize, faulted: bool) -> u8
+    ensures { λ r. ⌜ Ends faulted (now (state .entry)) (now (state .exit)) work i r ⌝ }
 {
     if faulted {
         return fail(work, state, i, Fault::F8);
@@ -76,8 +68,7 @@ pub fn end(
     if 1 < f.runs {
         return again(state, i, at, f);
     }
-    let below = frame_at(state, i, at - 1);
-    if is_finish(table, starts, below) {
+    if f.runs == 0 {
         return pop(state, i, depth, 2);
     }
     pop(state, i, depth, 3)

@@ -88,6 +88,7 @@ everyEntry =
     ∷ one 0x06 0x01
     ∷ two 0x07 0x03 0x02
     ∷ one 0x04 0x03
+    ∷ one 0x11 0x01
     ∷ end
     ∷ end
     ∷ next
@@ -116,6 +117,7 @@ everyTable =
     ∷ 0x06 ∷ 0x01
     ∷ 0x07 ∷ 0x03 ∷ 0x02
     ∷ 0x04 ∷ 0x03
+    ∷ 0x11 ∷ 0x01
     ∷ 0x00
     ∷ 0x00
     ∷ 0x01
@@ -145,7 +147,7 @@ built =
     ∷ accepted walkEntries (replicate 10 0xA5) 10 walkTable
     ∷ turnedAway walkEntries (replicate 9 0xA5) 18
     ∷ turnedAway walkEntries [] 18
-    ∷ accepted everyEntry (replicate 60 0x5A) 48 (everyTable ++ replicate 12 0x5A)
+    ∷ accepted everyEntry (replicate 60 0x5A) 50 (everyTable ++ replicate 10 0x5A)
     ∷ accepted (end ∷ []) (0xA1 ∷ 0xA2 ∷ 0xA3 ∷ []) 2 (0x01 ∷ 0x00 ∷ 0xA3 ∷ [])
     ∷ refused [] 1
     ∷ refused (replicate 2047 next ++ (end ∷ [])) 1
@@ -155,7 +157,9 @@ built =
     ∷ refused (next ∷ []) 2
     ∷ refused (alone 0x20 ∷ []) 2
     ∷ refused (alone 0x20 ∷ end ∷ []) 3
-    ∷ refused (alone 0x11 ∷ end ∷ []) 3
+    ∷ refused (alone 0x12 ∷ end ∷ []) 3
+    ∷ refused (one 0x11 0x00 ∷ end ∷ []) 6
+    ∷ refused (one 0x10 0x01 ∷ one 0x11 0x01 ∷ end ∷ end ∷ []) 7
     ∷ refused (one 0x10 0x02 ∷ alone 0xFF ∷ end ∷ []) 3
     ∷ refused (one 0x02 0x08 ∷ end ∷ []) 5
     ∷ turnedAway (one 0x02 0x08 ∷ end ∷ []) [] 5
@@ -211,6 +215,7 @@ everyListed =
     ∷ (0x06 ∷ 0x01 ∷ 0 ∷ 0 ∷ 0 ∷ [])
     ∷ (0x07 ∷ 0x03 ∷ 0x02 ∷ 0 ∷ 0 ∷ [])
     ∷ (0x04 ∷ 0x03 ∷ 0 ∷ 0 ∷ 0 ∷ [])
+    ∷ (0x11 ∷ 0x01 ∷ 0 ∷ 0 ∷ 0 ∷ [])
     ∷ (0x00 ∷ 0 ∷ 0 ∷ 0 ∷ 0 ∷ [])
     ∷ (0x00 ∷ 0 ∷ 0 ∷ 0 ∷ 0 ∷ [])
     ∷ (0x01 ∷ 0 ∷ 0 ∷ 0 ∷ 0 ∷ [])
@@ -229,10 +234,11 @@ listed =
     ∷ listedAs walkTable (replicate 6 (alone 0xA5)) 6 walkListed
     ∷ unlisted walkTable (replicate 5 (alone 0xA5)) 18
     ∷ unlisted walkTable [] 18
-    ∷ listedAs everyTable (replicate 24 (alone 0x5A)) 23 (everyListed ++ (alone 0x5A ∷ []))
+    ∷ listedAs everyTable (replicate 25 (alone 0x5A)) 24 (everyListed ++ (alone 0x5A ∷ []))
     ∷ unlisted [] (replicate 3 (alone 0xA5)) 1
     ∷ unlisted (0x00 ∷ 0x00 ∷ []) (replicate 3 (alone 0xA5)) 2
-    ∷ unlisted (0x01 ∷ 0x11 ∷ []) [] 3
+    ∷ unlisted (0x01 ∷ 0x12 ∷ []) [] 3
+    ∷ unlisted (0x01 ∷ 0x11 ∷ []) [] 4
     ∷ unlisted (0x01 ∷ 0x01 ∷ []) (replicate 3 (alone 0xA5)) 4
     ∷ unlisted (0x01 ∷ 0x00 ∷ 0x00 ∷ []) [] 8
     ∷ unlisted (0x03 ∷ 0x07 ∷ 0xFF ∷ 0x01 ∷ 0x00 ∷ 0x07 ∷ 0xFF ∷ 0x02 ∷ 0x00 ∷ 0x00 ∷ []) (replicate 9 (alone 0xA5)) 12

@@ -26,7 +26,7 @@ use Rattle.rules.proofs.Tests.{and-true, decide}
 use Rattle.rules.proofs.Search.{allBelow-at}
 use Rattle.rules.proofs.WellFormedFacts.{ActivityFacts, Facts, facts}
 use Rattle.rules.proofs.WellFormedHolds as holds
-use Rattle.rules.proofs.WellFormedStack.{Ran, byFinish, byRepeat, Stack, Stacked, level}
+use Rattle.rules.proofs.WellFormedStack.{Ran, byFinish, byRepeat, byChoose, Stack, Stacked, level}
 use Rattle.encoding.proofs.Fits.{FitsFrame, FitsHold, FitsActivity, FitsState}
 use Rattle.places.proofs.Places.{body-small, offset-small}
 use Rattle.fits.proofs.Operands.{narrow-here}
@@ -97,6 +97,8 @@ module _ (t : List ℕ) (ok : scan t ≡ 0) (y : Bytes t) where
               runs = omega (arith, narrow-here t ok y f on .runs n b e);
               first = omega arith;
             }
+        go (byChoose b e p q r) =
+            record { offset = omega (arith, offset-small t ok g up); body = omega (arith, body-small t ok g up); runs = omega arith; first = omega arith }
 
     -- below the depth
     used-fits : (d : ℕ) → d < depth → FitsFrame (level fs d)

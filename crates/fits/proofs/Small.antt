@@ -7,7 +7,7 @@ use mathlib.Core.Bool.{Bool, true, false, cond}
 use lib.ListN.{getD, set}
 use lib.Dec.{eqb, leb, ltb}
 use Rattle.program.specs.declared.command.Command.{Command}
-use Rattle.program.specs.declared.command.Command.the-variants.{End, Next, Clock, Resume, Drop, Async, Finish, Repeat, Acc, Offer, Read, Reset, Put, Fetch, Store, Add, Atom}
+use Rattle.program.specs.declared.command.Command.the-variants.{End, Next, Clock, Resume, Drop, Async, Finish, Repeat, Acc, Offer, Read, Reset, Put, Fetch, Store, Add, Atom, Choose}
 use Rattle.program.specs.Bodies.{Program, programOf}
 use Rattle.program.proofs.Basic.{Bytes}
 use Rattle.program.proofs.ShapeLaws.{numbered}
@@ -20,7 +20,7 @@ use Rattle.rules.specs.declared.state.State.{State}
 use Rattle.rules.specs.State.{operatorOf, noAccumulator, absent, act, top, accumulator, isAtBarrier}
 use Rattle.rules.specs.Faults.{Env}
 use Rattle.rules.specs.Effects as effects
-use Rattle.rules.specs.Effects.{past, pushed, again, popped, endOf, nextOf, repeatOf, child, stopped, reduce, newValue, Touch, cellAfter, touch, touchAll, Spawned, nobody, one, Write, keep, make, offer, reset, Effect, withValue, withWritten, withSpawned, withStores, untouched, effectOf, envOf, applied}
+use Rattle.rules.specs.Effects.{past, pushed, again, popped, endOf, nextOf, repeatOf, chooseOf, child, stopped, reduce, newValue, Touch, cellAfter, touch, touchAll, Spawned, nobody, one, Write, keep, make, offer, reset, Effect, withValue, withWritten, withSpawned, withStores, untouched, effectOf, envOf, applied}
 use Rattle.rules.specs.Steps.{at, effect, step, Limits}
 use Rattle.rules.specs.Runs.{runFrom}
 use Rattle.rules.proofs.Lists.{Stored, new, old, stored}
@@ -96,6 +96,7 @@ module _ (cell : ℕ → ℕ) (low : (d : ℕ) → Four (cell d)) where
   touch-small t h (Store d) = record { register = h .register; stores = (h .register, h .stores) }
   touch-small t h (Add d) = record { register = h .register; stores = (omega arith, h .stores) }
   touch-small t h (Atom k) = h
+  touch-small t h (Choose b) = h
 
   -- after those of an ATOM
   touches-small : (t : Touch) → SmallTouch t → (l : List Command) → SmallTouch (touchAll cell t l)
@@ -115,7 +116,7 @@ reduce-small Sum x y h k = omega arith
 reduce-small Minimum x y h k = either (leb x y) h k
 reduce-small Maximum x y h k = either (leb x y) k h
 
--- END, NEXT and REPEAT leave the hand.
+-- END, NEXT, REPEAT and CHOOSE leave the hand.
 end-register : (p : Program) (a : Activity) → endOf p a .register ≡ a .register
 unfolding endOf again popped past
 end-register p a = go (leb (a .depth) 1) (ltb 1 (top a .runs))
@@ -134,6 +135,14 @@ repeat-register : (p : Program) (a : Activity) (n b : ℕ) → repeatOf p a n b 
 unfolding repeatOf past pushed
 repeat-register p a zero b = refl
 repeat-register p a (suc n) b = refl
+
+choose-register : (p : Program) (a : Activity) (b : ℕ) → chooseOf p a b .register ≡ a .register
+unfolding chooseOf past pushed
+choose-register p a b = go (eqb (a .register) 0)
+  where
+    go : (x : Bool) → cond x (past p a) (pushed a b 0 0) .register ≡ a .register
+    go true = refl
+    go false = refl
 
 module _ (p : Program) (e : Env) (i : ℕ) (a : Activity) (own : Four (a .register)) (looks : (n : ℕ) → Four (e .look n .value)) (cells : (d : ℕ) → Four (e .cell d)) where
   hand : SmallTouch (untouched a)
@@ -160,6 +169,7 @@ module _ (p : Program) (e : Env) (i : ℕ) (a : Activity) (own : Four (a .regist
   effect-small (Store d) inner h = let t = touch-small (e .cell) cells (untouched a) hand (Store d) in record { self = t .register; born = tt; write = tt; stores = t .stores }
   effect-small (Add d) inner h = let t = touch-small (e .cell) cells (untouched a) hand (Add d) in record { self = t .register; born = tt; write = tt; stores = t .stores }
   effect-small (Atom k) inner h = let t = touches-small (e .cell) cells (untouched a) hand inner in record { self = t .register; born = tt; write = tt; stores = t .stores }
+  effect-small (Choose b) inner h = record { self = rw (choose-register p a b) own; born = tt; write = tt; stores = tt }
 
 -- STATES
 

@@ -12,7 +12,7 @@ use Rattle.program.specs.Command.{opcode}
 use Rattle.program.specs.Bodies.{Program}
 use Rattle.program.specs.Count.{workOf}
 use Rattle.program.specs.declared.command.Command.{Command}
-use Rattle.program.specs.declared.command.Command.the-variants.{End, Next, Clock, Resume, Drop, Async, Finish, Repeat, Acc, Offer, Read, Reset, Put, Fetch, Store, Add, Atom}
+use Rattle.program.specs.declared.command.Command.the-variants.{End, Next, Clock, Resume, Drop, Async, Finish, Repeat, Acc, Offer, Read, Reset, Put, Fetch, Store, Add, Atom, Choose}
 use Rattle.rules.specs.declared.state.Hold.{Hold}
 use Rattle.rules.specs.declared.state.Activity.{Activity}
 use Rattle.rules.specs.declared.state.State.{State}
@@ -29,7 +29,7 @@ use Rattle.rules.proofs.Search.{someBelow-all, both}
 use Rattle.rules.proofs.Lists.{Stored, new, old, stored}
 use Rattle.rules.proofs.WellFormedHolds.{Fits, under-map}
 use Rattle.rules.proofs.WellFormedFacts.{Facts}
-use Rattle.rules.proofs.Shapes.{Replaced, dropped, resumed, created, Reheld, kept, replaced, Kind, ends, meets, forks, opens, loops, moves, kind, isNext}
+use Rattle.rules.proofs.Shapes.{Replaced, dropped, resumed, created, Reheld, kept, replaced, Kind, ends, meets, forks, opens, enters, moves, kind, isNext}
 use Rattle.places.proofs.Searches.{some-alike}
 use Rattle.moves.specs.Exceeding.{overfull, isLast, someLast, overtakes, exceedsAt}
 
@@ -58,6 +58,7 @@ makes-by p e i a (Fetch d) inner = (refl, refl, refl)
 makes-by p e i a (Store d) inner = (refl, refl, refl)
 makes-by p e i a (Add d) inner = (refl, refl, refl)
 makes-by p e i a (Atom k) inner = (refl, refl, refl)
+makes-by p e i a (Choose b) inner = (refl, refl, refl)
 
 or-none : (b : Bool) → b ≡ b || false
 or-none true = refl
@@ -108,7 +109,7 @@ low-still {p} {a = a} (ends q r n) b l = rw r (low-end p a l)
 low-still {a = a} (meets q r n) b l = rw (r, b) (λ k m. rw (under-map quiesce refl (a .holds) k) (l k m))
 low-still (forks b m q r n) d l = rw r l
 low-still (opens b q r n) d l = rw r l
-low-still (loops j b q r n) d l = rw r l
+low-still (enters j b q r n) d l = rw r l
 low-still (moves b u v w alike r n) d l = rw r (low-reheld (alike .holds) l)
 
 -- The last phase is the one that passing cannot raise.
@@ -130,7 +131,7 @@ phases {p} {e} {i} {a} {c} {x} kd onNext l = go (decide (isAtBarrier (a .status)
     arrived (meets q r n) o = r
     arrived (forks b m q r n) o = let z : opcode c ≡ 5 = ap opcode q in absurd (omega arith)
     arrived (opens b q r n) o = let z : opcode c ≡ 6 = ap opcode q in absurd (omega arith)
-    arrived (loops j b q r n) o = let z : opcode c ≡ 7 = ap opcode q in absurd (omega arith)
+    arrived (enters j b q r n) o = absurd (true-false (isNext c) (unfold isNext in eq-eqb (opcode c) 1 o) (q .quiet))
     arrived (moves b u v w alike r n) o = absurd (true-false (isNext c) (unfold isNext in eq-eqb (opcode c) 1 o) v)
 
     go : (isAtBarrier (a .status) ≡ true) ⊎ (isAtBarrier (a .status) ≡ false)

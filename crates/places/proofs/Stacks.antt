@@ -8,7 +8,7 @@ use borrow.Author.Tests.{ltb-true, leb-true, lt-ltb}
 use Rattle.program.specs.Command.{isEnd}
 use Rattle.program.specs.Bodies.{Program}
 use Rattle.program.specs.declared.command.Command.{Command}
-use Rattle.program.specs.declared.command.Command.the-variants.{End, Next, Clock, Resume, Drop, Async, Finish, Repeat, Acc, Offer, Read, Reset, Put, Fetch, Store, Add, Atom}
+use Rattle.program.specs.declared.command.Command.the-variants.{End, Next, Clock, Resume, Drop, Async, Finish, Repeat, Acc, Offer, Read, Reset, Put, Fetch, Store, Add, Atom, Choose}
 use Rattle.rules.specs.declared.state.Frame.{Frame}
 use Rattle.rules.specs.declared.state.Activity.{Activity}
 use Rattle.rules.specs.State.{frame}
@@ -38,6 +38,7 @@ run-goes made (Fetch d) f e = refl
 run-goes made (Store d) f e = refl
 run-goes made (Add d) f e = refl
 run-goes made (Atom k) f e = refl
+run-goes made (Choose b) f e = refl
 
 module _ (p : Program) (made : ℕ) (a : Activity) where
   placed-at : (d : ℕ) → frameFits p made a d ≡ true → isPlaced p (frame a d) ≡ true

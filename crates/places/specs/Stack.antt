@@ -14,7 +14,7 @@ pub record Stacked (p : Program) (a : Activity) : Type 0 where
   pub some : 0 < a .depth
   pub few : a .depth ≤ 16
   pub placed : (d : ℕ) → d < a .depth → isPlaced p (frame a d) ≡ true
-  -- below the top a FINISH or REPEAT stands
+  -- below the top a FINISH, REPEAT or CHOOSE stands
   pub goes : (d : ℕ) → d + 1 < a .depth → isEnd (here p (frame a d) .command) ≡ false
   -- stacked bodies rise
   pub high : a .depth ≤ top a .body + 1

@@ -47,8 +47,8 @@ goes-on p s i m u e z =
     turn-back p s i (record { spawned = m; unended = u; moves = le-ltb 0 (awaited p s i) q })
 
 -- END where it may go on: one inside has faulted exactly where F8 is due.
-pub ends : {t starts b c : List ℕ} {i work n : ℕ} {r : Inside} → EndSees t starts b i r → Ends t starts (r .faulted) b c work i n → TurnsIn t starts End b c work i n
-ends {t} {i = i} e m = record { turns = λ k s l w. m .turns k s l w (spoilt-end e k s l (w .formed) (spawned w) (turn (programOf t) s i (w .goes) .unended)) }
+pub ends : {t starts b c : List ℕ} {i work n : ℕ} {r : Inside} → EndSees t starts b i r → Ends (r .faulted) b c work i n → TurnsIn t starts End b c work i n
+ends {t} {i = i} e m = record { turns = λ k s l w. m .turns t (k .scanned) s l w (spoilt-end e k s l (w .formed) (spawned w) (turn (programOf t) s i (w .goes) .unended)) }
 
 -- A COMMAND, BY HOW MANY IT WAITS FOR
 

@@ -4,6 +4,7 @@ ghost use Rattle.turns.specs.Turns.{CarriesIn, TurnsAny};
 use barriers::clock::clock;
 use barriers::rehold::drop;
 use barriers::rehold::resume;
+use bodies::choose::choose;
 use bodies::finish::finish;
 use bodies::repeat::repeat;
 use bodies::spawn::spawn;
@@ -74,6 +75,7 @@ fn carry_out(
         Command::Store(d) => alone(store(work, state, i, d as usize)),
         Command::Add(d) => alone(add(work, state, i, d as usize)),
         Command::Atom(k) => alone(atom(table, starts, work, state, i, k)),
+        Command::Choose(b) => alone(choose(work, state, i, b)),
     }
 }
 

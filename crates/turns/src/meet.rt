@@ -22,7 +22,7 @@ pub fn meet_end(table: &[u8], starts: &[usize], work: u64, state: &mut [u8], i: 
             awaited,
         };
     }
-    let number = end(table, starts, work, state, i, seen.faulted);
+    let number = end(work, state, i, seen.faulted);
     Reply { number, awaited: 0 }
 }
 

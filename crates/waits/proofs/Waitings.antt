@@ -11,7 +11,7 @@ use denote.Enum.Declared.{tagOf}
 use Rattle.program.specs.Command.{isEnd}
 use Rattle.program.specs.Bodies.{Program, programOf}
 use Rattle.program.specs.declared.command.Command.{Command}
-use Rattle.program.specs.declared.command.Command.the-variants.{End, Next, Clock, Resume, Drop, Async, Finish, Repeat, Acc, Offer, Read, Reset, Put, Fetch, Store, Add, Atom}
+use Rattle.program.specs.declared.command.Command.the-variants.{End, Next, Clock, Resume, Drop, Async, Finish, Repeat, Acc, Offer, Read, Reset, Put, Fetch, Store, Add, Atom, Choose}
 use Rattle.program.proofs.command.Command.{the-type}
 use Rattle.program.proofs.Shape.{Ranged}
 use Rattle.program.proofs.ShapeRanges.{within}
@@ -133,7 +133,7 @@ module _ {b : List ℕ} {i n f : ℕ} (meets : ReadFault b i n f) where
 -- THE COMMAND
 
 abbrev others : List ℕ
-others = 2 ∷ 3 ∷ 4 ∷ 5 ∷ 6 ∷ 7 ∷ 8 ∷ 9 ∷ 12 ∷ 13 ∷ 14 ∷ 15 ∷ 16 ∷ []
+others = 2 ∷ 3 ∷ 4 ∷ 5 ∷ 6 ∷ 7 ∷ 8 ∷ 9 ∷ 12 ∷ 13 ∷ 14 ∷ 15 ∷ 16 ∷ 17 ∷ []
 
 -- Any other command waits for nobody.
 other-waits : (p : Program) (s : State) (i : ℕ) (a : Activity) (c : Command) → OneOf others (tagOf the-type c) → (x : ℕ) → waitsFor p s i a c x ≡ false
@@ -155,6 +155,7 @@ other-waits p s i a (Fetch d) h x = refl
 other-waits p s i a (Store d) h x = refl
 other-waits p s i a (Add d) h x = refl
 other-waits p s i a (Atom k) h x = refl
+other-waits p s i a (Choose b) h x = refl
 
 -- what a well-formed state gives
 fit-of : {t starts : List ℕ} {s : State} → Known t starts → wellFormed 65535 (programOf t) s ≡ true → Fit t starts s

@@ -4,9 +4,9 @@ use native.Mathlib.Omega.{arith}
 use mathlib.Core.Path.{_≡_, refl, sym, _∙_}
 use mathlib.Core.Bool.{Bool, true, false, cond, _||_, _&&_, not}
 use lib.Dec.{ltb, leb, eqb}
-use borrow.Author.Tests.{ltb-true, leb-true, lt-ltb, ne-eqb}
+use borrow.Author.Tests.{ltb-true, leb-true, lt-leb, lt-ltb, ne-eqb}
 use Rattle.program.specs.declared.command.Command.{Command}
-use Rattle.program.specs.declared.command.Command.the-variants.{End, Next, Clock, Resume, Drop, Async, Finish, Repeat, Acc, Offer, Read, Reset, Put, Fetch, Store, Add, Atom}
+use Rattle.program.specs.declared.command.Command.the-variants.{End, Next, Clock, Resume, Drop, Async, Finish, Repeat, Acc, Offer, Read, Reset, Put, Fetch, Store, Add, Atom, Choose}
 use Rattle.program.specs.Command.{opcode, named, times}
 use Rattle.program.specs.Bodies.{Program}
 use Rattle.program.proofs.ShapeRows.{named-is, times-is}
@@ -45,11 +45,17 @@ apart-free x y free = by (isHeld (x .registration)) (isHeld (y .registration)) f
 
 -- COMMANDS THAT RUN A BODY
 
+-- The least number.
+least : (x : ℕ) → leb x 0 ≡ eqb x 0
+least zero = refl
+least (suc x) = lt-leb (suc x) 0 (omega arith) ∙ sym (ne-eqb (suc x) 0 (λ z. omega arith))
+
 -- What runs a frame, by the command's byte.
 pub run-by-opcode : (made : ℕ) (c : Command) (f : Frame)
     → runBy made c f
     ≡ cond (eqb (opcode c) 6) (eqb (f .body) (named c) && (eqb (f .runs) 0 && leb (f .first) made))
-    (cond (eqb (opcode c) 7) (eqb (f .body) (named c) && (leb 1 (f .runs) && (leb (f .runs) (times c) && eqb (f .first) 0))) false)
+    (cond (eqb (opcode c) 7) (eqb (f .body) (named c) && (leb 1 (f .runs) && (leb (f .runs) (times c) && eqb (f .first) 0)))
+    (cond (eqb (opcode c) 17) (eqb (f .body) (named c) && (eqb (f .runs) 0 && leb (f .first) 0)) false))
 unfolding runBy
 run-by-opcode made End f = refl
 run-by-opcode made Next f = refl
@@ -68,8 +74,9 @@ run-by-opcode made (Fetch d) f = refl
 run-by-opcode made (Store d) f = refl
 run-by-opcode made (Add d) f = refl
 run-by-opcode made (Atom k) f = refl
+run-by-opcode made (Choose b) f = rw (named-is (Choose b), least (f .first))
 
--- By a FINISH, by a REPEAT, by no other.
+-- By a FINISH, by a REPEAT, by a CHOOSE, by no other.
 module _ (made : ℕ) (c : Command) (f : Frame) (op b : ℕ) (is-op : op ≡ opcode c) (is-named : b ≡ named c) where
   pub by-finish : op ≡ 6 → eqb (f .body) b && (eqb (f .runs) 0 && leb (f .first) made) ≡ runBy made c f
   by-finish e = let q : opcode c ≡ 6 = sym is-op ∙ e in rw (run-by-opcode made c f, q, is-named)
@@ -77,9 +84,12 @@ module _ (made : ℕ) (c : Command) (f : Frame) (op b : ℕ) (is-op : op ≡ opc
   pub by-repeat : (n : ℕ) → n ≡ times c → op ≡ 7 → eqb (f .body) b && (leb 1 (f .runs) && (leb (f .runs) n && eqb (f .first) 0)) ≡ runBy made c f
   by-repeat n t e = let q : opcode c ≡ 7 = sym is-op ∙ e in rw (run-by-opcode made c f, q, is-named, t)
 
-pub by-no-other : (made : ℕ) (c : Command) (f : Frame) (op : ℕ) → op ≡ opcode c → (op ≡ 6 → ⊥) → (op ≡ 7 → ⊥) → false ≡ runBy made c f
-by-no-other made c f op e n m =
-    rw (run-by-opcode made c f, ne-eqb (opcode c) 6 (λ q. n (e ∙ q)), ne-eqb (opcode c) 7 (λ q. m (e ∙ q)))
+  pub by-choose : op ≡ 17 → eqb (f .body) b && (eqb (f .runs) 0 && leb (f .first) 0) ≡ runBy made c f
+  by-choose e = let q : opcode c ≡ 17 = sym is-op ∙ e in rw (run-by-opcode made c f, q, is-named)
+
+pub by-no-other : (made : ℕ) (c : Command) (f : Frame) (op : ℕ) → op ≡ opcode c → (op ≡ 6 → ⊥) → (op ≡ 7 → ⊥) → (op ≡ 17 → ⊥) → false ≡ runBy made c f
+by-no-other made c f op e n m o =
+    rw (run-by-opcode made c f, ne-eqb (opcode c) 6 (λ q. n (e ∙ q)), ne-eqb (opcode c) 7 (λ q. m (e ∙ q)), ne-eqb (opcode c) 17 (λ q. o (e ∙ q)))
 
 -- STACKS
 

@@ -70,6 +70,10 @@ returns-17 : tie.Need-returns-17
 unfolding waitsFor
 returns-17 c = let f = c .before .before .before in plain (f .before .before .before .command15 .given .1) (λ p s a x. refl) (c .alone13 .ensures) (f .atom .ensures)
 
+returns-18 : tie.Need-returns-18
+unfolding waitsFor
+returns-18 c = let f = c .before .before .before in plain-simply (f .before .before .before .command16 .given .1) (λ p s a x. refl) (c .alone14 .ensures) (f .choose .ensures)
+
 pub carry-out-spec : {M : Type 1} → statement M
 carry-out-spec =
     tie.close
@@ -88,10 +92,11 @@ carry-out-spec =
     (λ enum-known-command-12. search needs) (λ cast-fetch. search needs) (λ fetch-requires κs. search needs) (λ alone-requires-10 κs. search needs)
     (λ enum-known-command-13. search needs) (λ cast-store. search needs) (λ store-requires κs. search needs) (λ alone-requires-11 κs. search needs)
     (λ enum-known-command-14. search needs) (λ cast-add. search needs) (λ add-requires κs. search needs) (λ alone-requires-12 κs. search needs)
-    (λ enum-known-command-15. search needs) (λ atom-requires κs. search needs) (λ alone-requires-13 κs. search needs) (λ same-length. search needs)
+    (λ enum-known-command-15. search needs) (λ atom-requires κs. search needs) (λ alone-requires-13 κs. search needs)
+    (λ enum-known-command-16. search needs) (λ choose-requires κs. search needs) (λ alone-requires-14 κs. search needs) (λ same-length. search needs)
     returns (λ same-length-2. search needs) returns-2 (λ same-length-3. search needs) returns-3 (λ same-length-4. search needs) returns-4
     (λ same-length-5. search needs) returns-5 (λ same-length-6. search needs) returns-6 (λ same-length-7. search needs) returns-7
     (λ same-length-8. search needs) returns-8 (λ same-length-9. search needs) returns-9 (λ same-length-10. search needs) returns-10
     (λ same-length-11. search needs) returns-11 (λ same-length-12. search needs) returns-12 (λ same-length-13. search needs) returns-13
     (λ same-length-14. search needs) returns-14 (λ same-length-15. search needs) returns-15 (λ same-length-16. search needs) returns-16
-    (λ same-length-17. search needs) returns-17)
+    (λ same-length-17. search needs) returns-17 (λ same-length-18. search needs) returns-18)

@@ -2,8 +2,8 @@
 use borrow.Author.Needs.{needs}
 use borrow.Author.Tests.{eq-eqb, ne-eqb}
 use mathlib.Core.Path.{sym, _∙_}
-use Rattle.wellformed.proofs.runs.finish_runs.Statement.{statement}
-use Rattle.wellformed.proofs.runs.finish_runs.Tie as tie
+use Rattle.wellformed.proofs.runs.once_runs.Statement.{statement}
+use Rattle.wellformed.proofs.runs.once_runs.Tie as tie
 
 wide-requires : tie.Need-wide-requires
 wide-requires c κs = search needs
@@ -29,5 +29,5 @@ returns-3 c =
     let is = eq-eqb (from .f .body) (from .b) (sym (body .wide .ensures .0) ∙ same .if1 .left) in
     rw (is, ne-eqb _ _ (c .if2 .left))
 
-pub finish-runs-spec : {M : Type 1} → statement M
-finish-runs-spec = tie.close (tie.spec wide-requires returns returns-2 returns-3)
+pub once-runs-spec : {M : Type 1} → statement M
+once-runs-spec = tie.close (tie.spec wide-requires returns returns-2 returns-3)
