@@ -17,7 +17,7 @@ use Rattle.rules.specs.declared.answer.Answer.the-variants.{Accepted, Refused}
 use Rattle.rules.specs.State.{faultNumber, answerNumber}
 use Rattle.rules.proofs.FaultNumbers.{fault-range}
 use Rattle.rules.specs.Steps.{base, startWith, start, step, ready}
-use Rattle.rules.specs.Runs.{runFrom, answersFrom, run, answers, isAccepted, isFault, taken, someFault}
+use Rattle.rules.specs.Runs.{runFrom, answersFrom, run, answers, isAccepted, isFault, taken, someFault, sparedFrom, spared, allRanFrom, allRan}
 use Rattle.rules.specs.Demand3.{isOfRun, allOfRun, Demand3}
 use Rattle.rules.proofs.Tests.{and-true, and-intro, or-right, true-false}
 use Rattle.rules.proofs.Demand3.{demand3}
@@ -26,7 +26,7 @@ use Rattle.encoding.specs.Decode.{encodes, stateOf}
 use Rattle.fits.proofs.Fitting.{Fitting, step-fits, start-call-fits, run-fits}
 use Rattle.calls.specs.Calls.{fitsState, startNumber, startBytes, stepNumber, stepBytes, readyNumber, readySet}
 use Rattle.calls.proofs.Encoded.{whole-of, back-to, step-number, step-bytes, ready-number, ready-set}
-use Rattle.host.specs.ByteRuns.{stepsBytes, stepsNumbers, pointBytes, answersBytes, FollowsRun, isFaultNumber, isTaken, isRunNumber, allRunNumbers, takenNumbers, someFaultNumber, Demand3Bytes, AtEveryPointBytes}
+use Rattle.host.specs.ByteRuns.{stepsBytes, stepsNumbers, pointBytes, answersBytes, FollowsRun, isFaultNumber, isTaken, isRunNumber, allRunNumbers, takenNumbers, someFaultNumber, stepsSpared, stepsAllRan, sparedBytes, allRanBytes, Demand3Bytes, AtEveryPointBytes}
 
 -- THE CALLS IN TURN
 
@@ -117,6 +117,27 @@ unfolding allOfRun someFaultNumber someFault
 fault-numbers [] e = refl
 fault-numbers (a ∷ l) e = let q = and-true (isOfRun a) _ e in rw (fault-number a (q .0), fault-numbers l (q .1))
 
+-- CHOOSE
+
+module _ (t : List ℕ) (y : Bytes t) where
+  -- A step that was accepted is known by its number.
+  told : (s : State) → Fitting s → (i : ℕ) → isOfRun (step base t s i .answer) ≡ true → isTaken (stepNumber t (encodeState s) i) ≡ isAccepted (step base t s i .answer)
+  told s f i e = ap isTaken (step-number t s f i) ∙ taken-number (step base t s i .answer) e
+
+  steps-spared : (order : List ℕ) (s : State) → Fitting s → allOfRun (answersFrom base t s order) ≡ true → stepsSpared t (encodeState s) order ≡ sparedFrom base t s order
+  unfolding stepsSpared sparedFrom answersFrom allOfRun
+  steps-spared [] s f e = refl
+  steps-spared (i ∷ order) s f e =
+      let q = and-true (isOfRun (step base t s i .answer)) _ e in
+      rw (told s f i (q .0), back-to t s f, step-bytes t s f i, steps-spared order (step base t s i .state) (step-fits t y s f i) (q .1))
+
+  steps-all-ran : (order : List ℕ) (s : State) → Fitting s → allOfRun (answersFrom base t s order) ≡ true → stepsAllRan t (encodeState s) order ≡ allRanFrom base t s order
+  unfolding stepsAllRan allRanFrom answersFrom allOfRun
+  steps-all-ran [] s f e = refl
+  steps-all-ran (i ∷ order) s f e =
+      let q = and-true (isOfRun (step base t s i .answer)) _ e in
+      rw (told s f i (q .0), back-to t s f, step-bytes t s f i, steps-all-ran order (step base t s i .state) (step-fits t y s f i) (q .1))
+
 -- DEMAND 3
 
 module _ (t : List ℕ) (y : Bytes t) (ok : numberOf workLimit t ≡ 0) (b : List ℕ) (l : length b ≡ 13776) where
@@ -137,6 +158,14 @@ module _ (t : List ℕ) (y : Bytes t) (ok : numberOf workLimit t ≡ 0) (b : Lis
 
     faults : someFaultNumber (answersBytes t b order) ≡ someFault (answers base t order)
     faults = rw (at .numbers) (fault-numbers (answers base t order) (demand .answered))
+
+    sparing : sparedBytes t b order ≡ spared base t order
+    unfolding sparedBytes spared startBytes fitsState answers
+    sparing = rw (eq-eqb (length b) 13776 l) (steps-spared t y order (start base t .state) (start-call-fits t) (demand .answered))
+
+    running : allRanBytes t b order ≡ allRan base t order
+    unfolding allRanBytes allRan startBytes fitsState answers
+    running = rw (eq-eqb (length b) 13776 l) (steps-all-ran t y order (start base t .state) (start-call-fits t) (demand .answered))
 
     fits : Fitting (run base t order)
     fits = run-fits t y order
@@ -164,8 +193,9 @@ module _ (t : List ℕ) (y : Bytes t) (ok : numberOf workLimit t ≡ 0) (b : Lis
         over = λ e. ready-there order ∙ d .over (rw s at e);
         steps = λ i e. rw (step-there order i) (accepted-number (step base t (run base t order) i .answer) (d .steps i (rw (ready-there order) at e)));
         bounded = rw (counts order) (d .bounded);
-        whole = λ e f. rw (counts order) (d .whole (rw s at e) (sym (faults order) ∙ f));
-        less = λ e. rw (counts order) (d .less (sym (faults order) ∙ e));
+        whole = λ e f r. rw (counts order) (d .whole (rw s at e) (sym (faults order) ∙ f) (sym (running order) ∙ r));
+        accounted = λ e f. rw (counts order, sparing order) (d .accounted (rw s at e) (sym (faults order) ∙ f));
+        less = λ e. rw (counts order, sparing order) (d .less (sym (faults order) ∙ e));
         stable = λ before after q c p h k. rw s (d .stable before after q c p (rw (at before .state) at h) (rw (at before .state) at k));
       }
 

@@ -2,17 +2,17 @@
 -- t is a table, b a state's buffer as it is lent to the start.
 use Prim.Native.Nat.{ℕ, _+_, _≤_, _<_}
 use mathlib.Core.List.{List, [], _∷_, _++_, map}
-use mathlib.Core.Bool.{Bool, true, false, cond, _||_, _&&_}
+use mathlib.Core.Bool.{Bool, true, false, cond, _||_, _&&_, not}
 use mathlib.Core.Path.{_≡_}
 use lib.Dec.{leb, eqb}
 use Rattle.program.specs.Bodies.{programOf}
 use Rattle.program.specs.Count.{workOf}
 use Rattle.rules.specs.declared.state.State.{State}
-use Rattle.rules.specs.State.{answerNumber}
+use Rattle.rules.specs.State.{answerNumber, act}
 use Rattle.rules.specs.Clocks.{quiescent}
 use Rattle.rules.specs.Faults.{bit}
-use Rattle.rules.specs.Steps.{base, start}
-use Rattle.rules.specs.Runs.{run, answers, finished}
+use Rattle.rules.specs.Steps.{base, at, start}
+use Rattle.rules.specs.Runs.{run, answers, finished, skips, spares}
 use Rattle.encoding.specs.Encode.{encodeState}
 use Rattle.encoding.specs.Decode.{encodes, stateOf}
 use Rattle.calls.specs.Calls.{startNumber, startBytes, stepNumber, stepBytes, readyNumber, readySet}
@@ -70,6 +70,25 @@ unfoldable pub someFaultNumber : List ℕ → Bool
 someFaultNumber [] = false
 someFaultNumber (n ∷ more) = isFaultNumber n || someFaultNumber more
 
+-- CHOOSE
+
+-- The work of the bodies that CHOOSE skips in the accepted steps, and whether each of these CHOOSE ran its body.
+unfoldable pub stepsSpared : List ℕ → List ℕ → List ℕ → ℕ
+stepsSpared t b [] = 0
+stepsSpared t b (i ∷ order) = cond (isTaken (stepNumber t b i)) (spares (programOf t) (stateOf b) i) 0 + stepsSpared t (stepBytes t b i) order
+
+unfoldable pub stepsAllRan : List ℕ → List ℕ → List ℕ → Bool
+stepsAllRan t b [] = true
+stepsAllRan t b (i ∷ order) =
+    not (isTaken (stepNumber t b i) && skips (act (stateOf b) i) (at (programOf t) (stateOf b) i .command)) && stepsAllRan t (stepBytes t b i) order
+
+-- The same of a buffer in which the start was called.
+unfoldable pub sparedBytes : List ℕ → List ℕ → List ℕ → ℕ
+sparedBytes t b order = stepsSpared t (startBytes t b) order
+
+unfoldable pub allRanBytes : List ℕ → List ℕ → List ℕ → Bool
+allRanBytes t b order = stepsAllRan t (startBytes t b) order
+
 -- DEMAND 3
 
 -- The state in the buffer after the list.
@@ -87,10 +106,14 @@ pub record Demand3Bytes (t b order : List ℕ) : Type 0 where
   pub alive : readySet t (pointBytes t b order) ≡ 0 → finished (point t b order) ≡ true
   pub over : finished (point t b order) ≡ true → readySet t (pointBytes t b order) ≡ 0
   pub steps : (i : ℕ) → bit (readySet t (pointBytes t b order)) i ≡ true → isTaken (stepNumber t (pointBytes t b order) i) ≡ true
-  -- No more steps are accepted than the table's work. All ended without a fault, they are exactly that; with a fault, less.
+  -- No more steps are accepted than the table's work. All ended without a fault, they are exactly that where each CHOOSE ran its body, and with the work of the bodies that
+  -- CHOOSE skipped in any case; with a fault, less.
   pub bounded : takenNumbers (answersBytes t b order) ≤ workOf (programOf t)
-  pub whole : finished (point t b order) ≡ true → someFaultNumber (answersBytes t b order) ≡ false → takenNumbers (answersBytes t b order) ≡ workOf (programOf t)
-  pub less : someFaultNumber (answersBytes t b order) ≡ true → takenNumbers (answersBytes t b order) < workOf (programOf t)
+  pub whole : finished (point t b order) ≡ true → someFaultNumber (answersBytes t b order) ≡ false → allRanBytes t b order ≡ true
+      → takenNumbers (answersBytes t b order) ≡ workOf (programOf t)
+  pub accounted : finished (point t b order) ≡ true → someFaultNumber (answersBytes t b order) ≡ false
+      → takenNumbers (answersBytes t b order) + sparedBytes t b order ≡ workOf (programOf t)
+  pub less : someFaultNumber (answersBytes t b order) ≡ true → takenNumbers (answersBytes t b order) + sparedBytes t b order < workOf (programOf t)
   -- A phase that is quiescent at a point, on a clock made by then, is quiescent at every later point.
   pub stable : (before after : List ℕ) → before ++ after ≡ order → (c p : ℕ) → c < point t b before .clocks → quiescent (point t b before) c p ≡ true
       → quiescent (point t b order) c p ≡ true

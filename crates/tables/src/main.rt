@@ -38,7 +38,10 @@ fn show(name: &[u8], built: Built) {
 fn short_tables() {
     report(b"one byte", &[1]);
     report(b"no bodies", &[0, 0]);
-    report(b"byte 11", &[1, 0x11]);
+    report(b"CHOOSE without its operand", &[1, 0x11]);
+    report(b"byte 12", &[1, 0x12]);
+    report(b"CHOOSE of its own body", &[1, 0x11, 0, 0]);
+    report(b"CHOOSE after ATOM 1", &[2, 0x10, 1, 0x11, 1, 0, 0]);
     report(b"no END", &[1, 1]);
     report(b"CLOCK 8", &[1, 2, 8, 0]);
     report(b"FINISH of its own body", &[1, 6, 0, 0]);
