@@ -92,10 +92,13 @@ fn ended_with_something(_: &Table, state: &State) -> bool {
         .any(|a| a.has_ended() && (a.depth != 0 || a.held().next().is_some()))
 }
 
-/// "a stacked body is not the one run by the FINISH or REPEAT of the body below it"
+/// "a stacked body is not the one run by the FINISH or REPEAT of the body below it"; nor by its
+/// CHOOSE.
 fn not_the_one_run(table: &Table, state: &State) -> bool {
     any_stacked(state, |below, frame| match command(table, below) {
-        Some(&Command::Finish { body } | &Command::Repeat { body, .. }) => frame.body != body,
+        Some(
+            &Command::Finish { body } | &Command::Repeat { body, .. } | &Command::Choose { body },
+        ) => frame.body != body,
         _ => true,
     })
 }

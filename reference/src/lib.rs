@@ -7,10 +7,12 @@
 //! * [`fit`]: which states are fit for a table (number 13)
 //! * [`rules`]: the start, the step, the waiting test, the ready set and the sheet on fit states
 //! * [`calls`]: the same as checked calls with the numbers of the paper
+//! * [`account`]: what a run has taken and spared of its work
 //! * [`bytes`]: the state as bytes, and the calls over such bytes
 //! * [`walk`]: the text of the walk program
 //! * [`generate`]: seeded random tables, lists, orders and damaged states
 
+pub mod account;
 pub mod answer;
 pub mod builder;
 pub mod bytes;

@@ -65,6 +65,15 @@ pub fn awaited(table: &Table, state: &State, activity: usize) -> Result<u8, Refu
     }
 }
 
+/// The work that a step of the activity spares: that of the body of a CHOOSE with hand 0.
+pub fn spared(table: &Table, state: &State, activity: usize) -> u64 {
+    let own = state.spawned().get(activity).filter(|a| !a.has_ended());
+    match own.map(|own| (own.hand, &current(table, own).command)) {
+        Some((0, &Command::Choose { body })) => table.body_work(body),
+        _ => 0,
+    }
+}
+
 /// The standing sheet.
 pub fn registrations(state: &State) -> Sheet {
     let mut sheet = [[0; MAX_CLOCKS]; MAX_ACTIVITIES];
@@ -291,6 +300,10 @@ fn perform(table: &Table, state: &mut State, activity: usize, place: &Place) {
             return begin_repeat(&mut state.acts[activity], runs, body)
         }
         Command::Repeat { .. } => {}
+        Command::Choose { body } if state.acts[activity].hand != 0 => {
+            return begin_chosen(&mut state.acts[activity], body)
+        }
+        Command::Choose { .. } => {}
         Command::Clock(c) => make_clock(state, activity, c),
         Command::Resume(c) => {
             state.acts[activity].holds[usize::from(c)].registration = Registration::Quiesced;
@@ -326,7 +339,7 @@ fn push(own: &mut Activity, frame: Frame) {
     own.depth += 1;
 }
 
-/// END: of the lowest body, of a FINISH body, or of a run of a REPEAT body.
+/// END: of the lowest body, of a FINISH or CHOOSE body, or of a run of a REPEAT body.
 fn end_body(table: &Table, own: &mut Activity) {
     let Some(runner) = runner(table, own) else {
         return end(own, Standing::Ended);
@@ -389,6 +402,14 @@ fn begin_repeat(own: &mut Activity, runs: u8, body: u8) {
     let frame = Frame {
         body,
         runs,
+        ..Frame::default()
+    };
+    push(own, frame);
+}
+
+fn begin_chosen(own: &mut Activity, body: u8) {
+    let frame = Frame {
+        body,
         ..Frame::default()
     };
     push(own, frame);

@@ -77,6 +77,7 @@ pub enum Command {
     Put(u32),
     Cell(CellCommand),
     Atom(Vec<CellCommand>),
+    Choose { body: u8 },
 }
 
 /// A command where it stands in its body.
@@ -127,25 +128,31 @@ struct Body {
 #[derive(Clone, Debug, PartialEq, Eq)]
 pub struct Table {
     bodies: Vec<Body>,
-    counts: Counts,
+    /// The counts of each body.
+    counted: Vec<Counts>,
 }
 
 impl Table {
     /// Reads a table, trying numbers 1 to 12 in order.
     pub fn read(bytes: &[u8]) -> Result<Table, Refusal> {
         let bodies = read_bodies(bytes)?;
-        let counts = count_table(&bodies);
-        check_counts(counts)?;
-        Ok(Table { bodies, counts })
+        let counted = count_bodies(&bodies);
+        check_counts(with_main(&counted))?;
+        Ok(Table { bodies, counted })
     }
 
     /// The counts of body 0, main counted among the activities.
     pub fn counts(&self) -> Counts {
-        self.counts
+        with_main(&self.counted)
     }
 
     pub fn work(&self) -> u32 {
-        self.counts.work as u32
+        self.counted[0].work as u32
+    }
+
+    /// The work of a body, capped; a body that nothing runs may have more than the table.
+    pub fn body_work(&self, body: u8) -> u64 {
+        self.counted[usize::from(body)].work
     }
 
     pub fn bodies(&self) -> usize {
@@ -161,7 +168,7 @@ impl Table {
 
 /// The counts of a table that numbers 1 to 8 let pass, whatever 9 to 12 say.
 pub fn count(bytes: &[u8]) -> Result<Counts, Refusal> {
-    Ok(count_table(&read_bodies(bytes)?))
+    Ok(with_main(&count_bodies(&read_bodies(bytes)?)))
 }
 
 /// Numbers 1 to 8.
@@ -265,11 +272,11 @@ fn read_single(bytes: &[u8], scope: Scope) -> Result<(Single, usize), Refusal> {
     Ok((single, 1 + length))
 }
 
-/// How many operand bytes follow a command byte; `None` above 10.
+/// How many operand bytes follow a command byte; `None` above 11.
 pub(crate) fn operand_bytes(code: u8) -> Option<usize> {
     match code {
         0x00 | 0x01 => Some(0),
-        0x02..=0x04 | 0x06 | 0x09..=0x0B | 0x0D..=0x10 => Some(1),
+        0x02..=0x04 | 0x06 | 0x09..=0x0B | 0x0D..=0x11 => Some(1),
         0x05 | 0x07 | 0x08 => Some(2),
         0x0C => Some(4),
         _ => None,
@@ -306,6 +313,9 @@ fn plain_command(code: u8, operands: &[u8], scope: Scope) -> Result<Command, Ref
         (0x0D, &[d]) => Command::Cell(CellCommand::Fetch(cell(d)?)),
         (0x0E, &[d]) => Command::Cell(CellCommand::Store(cell(d)?)),
         (0x0F, &[d]) => Command::Cell(CellCommand::Add(cell(d)?)),
+        (0x11, &[b]) => Command::Choose {
+            body: named_body(b, scope)?,
+        },
         _ => unreachable!("operand_bytes gave each command its operands"),
     })
 }
@@ -340,12 +350,17 @@ fn named_body(byte: u8, scope: Scope) -> Result<u8, Refusal> {
     }
 }
 
-/// The counts of body 0 with main. The last body is counted first, and each body once.
-fn count_table(bodies: &[Body]) -> Counts {
+/// The counts of each body. The last body is counted first, and each body once.
+fn count_bodies(bodies: &[Body]) -> Vec<Counts> {
     let mut counted = vec![Counts::default(); bodies.len()];
     for (i, body) in bodies.iter().enumerate().rev() {
         counted[i] = count_body(body, &counted);
     }
+    counted
+}
+
+/// The counts of body 0 with main.
+fn with_main(counted: &[Counts]) -> Counts {
     let main = Counts {
         activities: 1,
         ..Counts::default()
@@ -379,7 +394,7 @@ fn count_command(command: &Command, counted: &[Counts]) -> Counts {
             ..one
         }
         .plus(counted[usize::from(body)]),
-        Command::Finish { body } => one.plus(counted[usize::from(body)]),
+        Command::Finish { body } | Command::Choose { body } => one.plus(counted[usize::from(body)]),
         Command::Repeat { runs, body } => one.plus(counted[usize::from(body)].times(runs)),
         _ => one,
     }

@@ -12,7 +12,7 @@ const NEXT: &[u8] = &[1];
 const OLD: u8 = 0xA5;
 
 /// Operand bytes by command byte, from the paper's list of commands.
-const OPERANDS: [usize; 17] = [0, 0, 1, 1, 1, 2, 1, 2, 2, 1, 1, 1, 4, 1, 1, 1, 1];
+const OPERANDS: [usize; 18] = [0, 0, 1, 1, 1, 2, 1, 2, 2, 1, 1, 1, 4, 1, 1, 1, 1, 1];
 
 /// An entry with this in the bytes that the command lacks.
 fn filled(command: &[u8], filler: u8) -> Entry {
@@ -119,6 +119,7 @@ fn every_command_with_its_operands() {
         &[13, 0],
         &[14, 1],
         &[15, 2],
+        &[17, 1],
         END,
         END,
     ];
@@ -159,8 +160,8 @@ fn number_1_comes_before_the_others() {
     assert_eq!(built(&vec![filled(NEXT, 0); 2_048]).0, 1);
     assert_eq!(built(&vec![filled(END, 0); 2_047]).0, 2);
     assert_eq!(built(&vec![filled(END, 0); 2_048]).0, 1);
-    assert_eq!(built(&many(2_046, &[0x11])).0, 3);
-    assert_eq!(built(&many(2_047, &[0x11])).0, 1);
+    assert_eq!(built(&many(2_046, &[0x12])).0, 3);
+    assert_eq!(built(&many(2_047, &[0x12])).0, 1);
     assert_eq!(built(&many(1_023, &[2, 8])).0, 5);
     assert_eq!(built(&many(1_024, &[2, 8])).0, 1);
 }
@@ -169,7 +170,7 @@ fn number_1_comes_before_the_others() {
 fn number_2_by_the_number_of_ends() {
     assert_eq!(number(&[NEXT]), 2);
     assert_eq!(number(&[&[2, 9]]), 2);
-    assert_eq!(number(&[&[0x11]]), 2);
+    assert_eq!(number(&[&[0x12]]), 2);
     let (accepted, table) = built(&[filled(END, 0); 16]);
     assert_eq!((accepted, table[0], table.len()), (0, 16, 17));
     for ends in [17, 18, 255, 256, 257, 272, 300, 512, 513, 1_025, 2_047] {
@@ -182,7 +183,7 @@ fn number_2_by_the_number_of_ends() {
 
 #[test]
 fn number_2_comes_before_the_commands() {
-    let mut list = entries(&[&[2, 9], &[0x11]]);
+    let mut list = entries(&[&[2, 9], &[0x12]]);
     list.extend(vec![filled(END, 0); 17]);
     assert_eq!(built(&list).0, 2);
     list.pop();
@@ -198,21 +199,21 @@ fn byte_0_follows_the_list() {
 
 #[test]
 fn number_3_for_a_first_byte_that_is_no_command() {
-    for code in 0x11..=0xFF {
+    for code in 0x12..=0xFF {
         assert_eq!(number(&[&[code], END]), 3);
         assert_eq!(number(&[END, &[code], END]), 3);
         assert_eq!(number(&[END, &[code]]), 8);
     }
-    assert_eq!(number(&[&[0x11], &[2, 9], END]), 3);
-    assert_eq!(number(&[&[2, 9], &[0x11], END]), 5);
+    assert_eq!(number(&[&[0x12], &[2, 9], END]), 3);
+    assert_eq!(number(&[&[2, 9], &[0x12], END]), 5);
 }
 
 #[test]
 fn an_entry_that_is_no_command_makes_one_byte() {
     let mut list = entries(&[END]);
-    list.extend(vec![filled(&[0x11], 0); 2_046]);
+    list.extend(vec![filled(&[0x12], 0); 2_046]);
     assert_eq!(built(&list).0, 8);
-    list.push(filled(&[0x11], 0));
+    list.push(filled(&[0x12], 0));
     assert_eq!(built(&list).0, 1);
 }
 
@@ -257,7 +258,7 @@ fn number_7_in_an_atom() {
     assert_eq!(number(&[&[16, 1], &[16, 1], &[13, 0], END]), 7);
     assert_eq!(number(&[&[16, 1], &[12, 0, 0, 0, 0], END]), 7);
     // The command after ATOM is tried for 3 to 6 first.
-    assert_eq!(number(&[&[16, 1], &[0x11], END]), 3);
+    assert_eq!(number(&[&[16, 1], &[0x12], END]), 3);
     assert_eq!(number(&[&[16, 1], &[2, 8], END]), 5);
     assert_eq!(number(&[&[16, 1], &[13, 16], END]), 5);
     assert_eq!(number(&[&[16, 1], &[16, 9], END]), 5);
@@ -358,7 +359,7 @@ fn number_18_comes_last() {
     let refused: [(u8, Vec<Entry>); 7] = [
         (1, vec![]),
         (2, entries(&[NEXT])),
-        (3, entries(&[&[0x11], END])),
+        (3, entries(&[&[0x12], END])),
         (5, entries(&[&[2, 8], END])),
         (8, entries(&[END, NEXT])),
         (11, many(17, &[8, 0, 0])),
@@ -387,8 +388,8 @@ fn bytes_that_a_command_lacks_are_not_looked_at() {
         let scribbled = list.map(|entry| filled(&entry[..length(entry[0])], filler));
         assert_eq!(built(&scribbled), (0, table.clone()));
     }
-    assert_eq!(built(&[filled(&[0x11], 9), filled(END, 9)]).0, 3);
-    assert_eq!(built(&[filled(END, 9), filled(&[0x11], 9)]).0, 8);
+    assert_eq!(built(&[filled(&[0x12], 9), filled(END, 9)]).0, 3);
+    assert_eq!(built(&[filled(END, 9), filled(&[0x12], 9)]).0, 8);
     assert_eq!(listed(&table), list);
 }
 
@@ -398,7 +399,7 @@ fn list_answers_as_the_reader() {
         (1, &[]),
         (1, &[1]),
         (2, &[0, 0]),
-        (3, &[1, 0x11]),
+        (3, &[1, 0x12]),
         (4, &[1, 1]),
         (5, &[1, 2, 8, 0]),
         (6, &[1, 6, 0, 0]),
@@ -493,7 +494,7 @@ fn no_list_is_cut() {
         assert_ne!(built(&list_of(&mut Rng::new(seed))).0, 4);
     }
     // All lists of up to five of these: ATOM 1, ATOM 2, FETCH, END, NEXT, no command.
-    let commands: [&[u8]; 6] = [&[16, 1], &[16, 2], &[13, 0], END, NEXT, &[0x11]];
+    let commands: [&[u8]; 6] = [&[16, 1], &[16, 2], &[13, 0], END, NEXT, &[0x12]];
     for index in 0..6usize.pow(5) {
         let picked = |place| commands[index / 6usize.pow(place) % 6];
         for length in 0..=5 {

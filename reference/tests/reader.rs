@@ -8,11 +8,15 @@ fn number(table: &[u8]) -> u8 {
 
 #[test]
 fn commands_after_atom_are_tried_in_turn() {
-    assert_eq!(number(&[1, 0x10, 1, 0x11]), 3);
+    assert_eq!(number(&[1, 0x10, 1, 0x12]), 3);
+    assert_eq!(number(&[1, 0x10, 1, 0x13]), 3);
+    assert_eq!(number(&[1, 0x10, 1, 0x11]), 4);
     assert_eq!(number(&[1, 0x10, 1, 0x05]), 4);
     assert_eq!(number(&[1, 0x10, 1, 0x02, 9, 0]), 5);
     assert_eq!(number(&[1, 0x10, 1, 0x06, 0, 0]), 6);
     assert_eq!(number(&[1, 0x10, 1, 0x01, 0]), 7);
+    assert_eq!(number(&[1, 0x10, 1, 0x11, 0, 0]), 6);
+    assert_eq!(number(&[2, 0x10, 1, 0x11, 1, 0, 0]), 7);
 }
 
 #[test]
@@ -56,7 +60,7 @@ fn numbers_of_bodies() {
 
 #[test]
 fn cut_commands() {
-    let cut: [&[u8]; 8] = [
+    let cut: [&[u8]; 9] = [
         &[1, 2],
         &[1, 5, 0],
         &[1, 6],
@@ -64,6 +68,7 @@ fn cut_commands() {
         &[1, 8, 9],
         &[1, 12, 0, 0, 0],
         &[1, 13],
+        &[1, 17],
         &[2, 0],
     ];
     for table in cut {
@@ -87,7 +92,7 @@ fn operands_out_of_range() {
 
 #[test]
 fn named_bodies_are_greater() {
-    for head in [&[5u8, 1, 0][..], &[6, 1], &[7, 0, 1]] {
+    for head in [&[5u8, 1, 0][..], &[6, 1], &[7, 0, 1], &[17, 1]] {
         let with_two_bodies = [&[2], head, &[0, 0]].concat();
         assert_eq!(number(&with_two_bodies), 0);
         let with_one_body = [&[1], head, &[0]].concat();
@@ -99,9 +104,10 @@ fn named_bodies_are_greater() {
 
 #[test]
 fn the_first_failing_command_decides() {
-    assert_eq!(number(&[1, 2, 9, 0x11]), 5);
+    assert_eq!(number(&[1, 2, 9, 0x12]), 5);
     assert_eq!(number(&[1, 6, 0, 2, 9, 0]), 6);
-    assert_eq!(number(&[1, 0x11, 2, 9, 0]), 3);
+    assert_eq!(number(&[1, 0x12, 2, 9, 0]), 3);
+    assert_eq!(number(&[1, 0x11, 0, 0x12]), 6);
 }
 
 #[test]
@@ -113,6 +119,39 @@ fn counts_multiply() {
     assert_eq!(counts.clocks, 3);
     assert_eq!(counts.accumulators, 6);
     assert_eq!(counts.work, 1 + 3 * (1 + 6 + 1) + 1);
+}
+
+#[test]
+fn what_is_under_a_condition_counts_once() {
+    // CHOOSE of a body that spawns one with a clock and two accumulators.
+    let table = [3, 17, 1, 0, 5, 2, 0, 0, 2, 0, 8, 0, 0, 8, 1, 0, 1, 0];
+    let counts = Table::read(&table).unwrap().counts();
+    assert_eq!(counts.activities, 2);
+    assert_eq!(counts.clocks, 1);
+    assert_eq!(counts.accumulators, 2);
+    assert_eq!(counts.work, 1 + (1 + 6 + 1) + 1);
+}
+
+#[test]
+fn a_condition_counts_towards_each_limit() {
+    // REPEAT of a body with one CHOOSE of a body with one of each.
+    let repeated = |n: u8, command: &[u8]| {
+        let mut table = vec![4, 7, n, 1, 0, 17, 2, 0];
+        table.extend(command);
+        table.extend([0, 0]);
+        table
+    };
+    assert_eq!(number(&repeated(63, &[5, 3, 0])), 0);
+    assert_eq!(number(&repeated(64, &[5, 3, 0])), 9);
+    assert_eq!(number(&repeated(16, &[2, 0])), 0);
+    assert_eq!(number(&repeated(17, &[2, 0])), 10);
+    assert_eq!(number(&repeated(16, &[8, 0, 0])), 0);
+    assert_eq!(number(&repeated(17, &[8, 0, 0])), 11);
+    // The work is 2 and 255 times 256 + n.
+    let work = |n: usize| repeated(255, &[&[7, 252, 3], &[13, 0].repeat(n)[..]].concat());
+    assert_eq!(count(&work(0)).unwrap().work, 2 + 255 * 256);
+    assert_eq!(number(&work(0)), 0);
+    assert_eq!(number(&work(1)), 12);
 }
 
 #[test]

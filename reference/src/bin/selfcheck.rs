@@ -5,6 +5,7 @@
 
 use std::collections::BTreeMap;
 
+use reference::account::Account;
 use reference::answer::{accepted, number};
 use reference::bytes::{self, decode, encode};
 use reference::fit::{broken_clauses, is_fit};
@@ -171,10 +172,11 @@ fn check_run(rng: &mut Rng, bytes: &[u8], table: &Table, tally: &mut Tally) {
     let order = order(rng, bytes, kind, MOST);
     let every = 1 + order.len() / SHORT;
     let mut state = rules::start();
-    let mut taken = 0;
+    let mut account = Account::default();
     check_point(bytes, table, &state);
     for (turn, &activity) in order.iter().enumerate() {
         let before = state.steps;
+        let spared = rules::spared(table, &state, activity);
         let command = command_name(table, &state, activity);
         let awaited = rules::awaited(table, &state, activity).unwrap_or(0);
         let answer = if turn % every == 0 {
@@ -187,9 +189,8 @@ fn check_run(rng: &mut Rng, bytes: &[u8], table: &Table, tally: &mut Tally) {
         bump(&mut tally.awaited, awaited);
         tally.commands.entry(command).or_default()[column(answer)] += 1;
         assert!(!matches!(answer, 1..=13 | 17), "answer {answer} in a run");
-        taken += u32::from(accepted(answer));
+        account.enter(spared, answer);
         assert_eq!(state.steps, before + u32::from(accepted(answer)));
-        assert_eq!(state.steps, taken);
         if turn % every == 0 {
             check_point(bytes, table, &state);
         }
@@ -201,7 +202,7 @@ fn check_run(rng: &mut Rng, bytes: &[u8], table: &Table, tally: &mut Tally) {
         }
     }
     check_point(bytes, table, &state);
-    check_end(table, &state, order.len(), tally);
+    check_end(table, &state, &account, order.len(), tally);
     let run = calls::run(bytes, &order).expect("an accepted table");
     assert_eq!(run.state, state);
     assert_eq!(run.answers.len(), order.len());
@@ -239,6 +240,8 @@ fn command_name(table: &Table, state: &State, activity: usize) -> &'static str {
         Command::Put(_) => "PUT",
         Command::Cell(_) => "FETCH, STORE, ADD",
         Command::Atom(_) => "ATOM",
+        Command::Choose { .. } if state.acts[activity].hand == 0 => "CHOOSE with hand 0",
+        Command::Choose { .. } => "CHOOSE",
     }
 }
 
@@ -249,6 +252,7 @@ fn step_watched(table: &Table, state: &mut State, activity: usize) -> u8 {
     if !accepted(answer) {
         assert_eq!(*state, before, "a refused step changed the state");
     }
+    check_chosen(table, &before, state, activity, answer);
     answer
 }
 
@@ -378,8 +382,37 @@ fn comes_by(state: &State, mut activity: usize, ancestor: usize) -> Option<u8> {
     None
 }
 
-/// Where a run is finished, all work is done unless an activity faulted.
-fn check_end(table: &Table, state: &State, length: usize, tally: &mut Tally) {
+/// CHOOSE is never refused and never faults: it goes on after its two bytes with hand 0, and else
+/// begins its body, and changes nothing else.
+fn check_chosen(table: &Table, before: &State, after: &State, activity: usize, answer: u8) {
+    let top = before.spawned().get(activity).and_then(Activity::top);
+    let Some(frame) = top else {
+        return;
+    };
+    let place = table.place(frame.body, frame.offset).expect("a command");
+    let Command::Choose { body } = place.command else {
+        return;
+    };
+    assert_eq!(answer, 0, "CHOOSE refused or faulted");
+    let mut expected = before.clone();
+    expected.steps += 1;
+    let own = &mut expected.acts[activity];
+    let depth = usize::from(own.depth);
+    if own.hand == 0 {
+        own.frames[depth - 1].offset += 2;
+    } else {
+        own.depth += 1;
+        own.frames[depth] = Frame {
+            body,
+            ..Frame::default()
+        };
+    }
+    assert_eq!(*after, expected);
+}
+
+/// Where a run is finished, all work is taken or spared unless an activity faulted.
+fn check_end(table: &Table, state: &State, account: &Account, length: usize, tally: &mut Tally) {
+    assert!(account.adds_up(table, state), "{account:?}");
     if !state.is_finished() {
         assert!(length >= MOST, "an order ended before its run");
         return bump(&mut tally.runs, "cut");
@@ -387,10 +420,10 @@ fn check_end(table: &Table, state: &State, length: usize, tally: &mut Tally) {
     let faulted = state.spawned().iter().any(Activity::has_faulted);
     let counts = table.counts();
     if faulted {
-        assert!(state.steps < table.work());
         bump(&mut tally.runs, "finished with a fault");
+    } else if account.skipped > 0 {
+        bump(&mut tally.runs, "finished without a fault, work spared");
     } else {
-        assert_eq!(state.steps, table.work());
         assert_eq!(u64::from(state.activities), counts.activities);
         assert_eq!(u64::from(state.clocks), counts.clocks);
         assert_eq!(u64::from(state.accumulators), counts.accumulators);
