@@ -3,6 +3,7 @@
 //! The same seed always gives the same tables, lists, orders and states.
 
 mod author;
+mod chooses;
 mod codes;
 mod context;
 mod damage;

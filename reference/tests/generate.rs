@@ -7,7 +7,8 @@ use reference::generate::{
     damage_names, damage_state, damage_state_by, fault_table, limit_table, list_of, order,
     program_table, random_order, random_table, strain_state, OrderKind, Rng,
 };
-use reference::table::{count, Table};
+use reference::rules;
+use reference::table::{count, Command, Table};
 
 #[test]
 fn the_same_seed_gives_the_same() {
@@ -66,6 +67,43 @@ fn impatient_orders_meet_waits() {
         run(&table, &order).is_ok_and(|run| run.answers.contains(&16))
     });
     assert!(met.count() > 60);
+}
+
+#[test]
+fn bodies_under_a_condition_are_run_and_skipped() {
+    let mut rng = Rng::new(9);
+    let (mut ran, mut skipped, mut both) = (0, 0, 0);
+    for _ in 0..300 {
+        let bytes = program_table(&mut rng);
+        let order = order(&mut rng, &bytes, OrderKind::Drive, 10_000);
+        let Ok(table) = Table::read(&bytes) else {
+            continue;
+        };
+        let hands = hands_at_choose(&table, &order);
+        let (runs, skips) = (hands.iter().any(|&h| h != 0), hands.contains(&0));
+        ran += usize::from(runs);
+        skipped += usize::from(skips);
+        both += usize::from(runs && skips);
+    }
+    assert!(
+        ran > 80 && skipped > 80 && both > 40,
+        "{ran} {skipped} {both}"
+    );
+}
+
+/// The hand at each CHOOSE step of a run.
+fn hands_at_choose(table: &Table, order: &[usize]) -> Vec<u32> {
+    let mut state = rules::start();
+    let mut hands = Vec::new();
+    for &activity in order {
+        let own = &state.acts[activity.min(63)];
+        let place = own.top().and_then(|top| table.place(top.body, top.offset));
+        if place.is_some_and(|place| matches!(place.command, Command::Choose { .. })) {
+            hands.push(own.hand);
+        }
+        let _ = rules::step(table, &mut state, activity);
+    }
+    hands
 }
 
 #[test]

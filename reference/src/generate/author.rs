@@ -1,20 +1,21 @@
 //! Meaningful jobs.
 
+use super::chooses::Hand;
 use super::codes::*;
 use super::context::{Binding, Context, Name};
 use super::faults::fault_bodies;
 use super::rng::Rng;
 
 /// How often each command is written: NEXT with a clock held and without, CLOCK, RESUME, DROP, ASYNC, FINISH, REPEAT, ACC, OFFER,
-/// READ or RESET, PUT, a command on a cell, ATOM.
-type Taste = [usize; 14];
+/// READ or RESET, PUT, a command on a cell, ATOM, CHOOSE.
+type Taste = [usize; 15];
 
 /// A little of everything, mostly meetings, mostly finishes, mostly accumulators.
 const TASTES: [Taste; 4] = [
-    [14, 2, 6, 5, 5, 22, 11, 10, 7, 9, 8, 5, 7, 4],
-    [44, 2, 5, 7, 6, 28, 3, 8, 2, 3, 2, 2, 4, 2],
-    [10, 1, 3, 2, 2, 26, 34, 6, 3, 5, 5, 2, 3, 2],
-    [4, 1, 2, 1, 2, 24, 8, 6, 10, 22, 18, 8, 3, 2],
+    [14, 2, 6, 5, 5, 22, 11, 10, 7, 9, 8, 5, 7, 4, 12],
+    [44, 2, 5, 7, 6, 28, 3, 8, 2, 3, 2, 2, 4, 2, 6],
+    [10, 1, 3, 2, 2, 26, 34, 6, 3, 5, 5, 2, 3, 2, 12],
+    [4, 1, 2, 1, 2, 24, 8, 6, 10, 22, 18, 8, 3, 2, 10],
 ];
 
 /// Writes the bodies of a table, each named body after the one that names it.
@@ -57,6 +58,7 @@ impl<'r> Author<'r> {
         let mut code = Vec::new();
         let length = self.rng.between(1, 20);
         let fault_at = self.rng.below(length);
+        self.open_with_choose(&mut code, &mut context);
         self.open(&mut code, &mut context);
         for k in 0..length {
             if let Some(fault) = fault.filter(|_| k == fault_at) {
@@ -129,7 +131,8 @@ impl<'r> Author<'r> {
             10 => self.write_read(code, context),
             11 => self.write_put(code),
             12 => self.write_cell(code),
-            _ => self.write_atom(code),
+            13 => self.write_atom(code),
+            _ => self.write_choose(code, context),
         }
     }
 
@@ -137,7 +140,7 @@ impl<'r> Author<'r> {
     pub fn write_slip(&mut self, code: &mut Vec<u8>, body: u8) {
         let name = self.rng.below(8) as u8;
         let later = usize::from(body) + 1;
-        match self.rng.below(8) {
+        match self.rng.below(9) {
             0 => code.extend([CLOCK, name]),
             1 => code.extend([RESUME, name]),
             2 => code.extend([DROP, name]),
@@ -148,6 +151,10 @@ impl<'r> Author<'r> {
                 let b = self.rng.between(later, self.bodies.len() - 1) as u8;
                 let mask = self.rng.byte();
                 code.extend([ASYNC, b, mask]);
+            }
+            7 if later < self.bodies.len() => {
+                let b = self.rng.between(later, self.bodies.len() - 1) as u8;
+                code.extend([CHOOSE, b]);
             }
             _ => code.push(NEXT),
         }
@@ -222,8 +229,12 @@ impl<'r> Author<'r> {
         }
     }
 
-    /// The body of a spawned activity; with clocks it often begins with a meeting.
+    /// The body of a spawned activity; with clocks it often begins with a meeting. Some begin with a
+    /// CHOOSE, on the spawner's hand.
     fn write_child(&mut self, code: &mut Vec<u8>, body: u8, context: &mut Context) {
+        if self.rng.chance(12) {
+            self.write_chosen(code, context, Hand::Unknown);
+        }
         if !context.held_names().is_empty() && self.rng.chance(60) {
             self.write_next(code, context);
         }
@@ -244,15 +255,24 @@ impl<'r> Author<'r> {
 
     pub fn write_repeat(&mut self, code: &mut Vec<u8>, context: &mut Context) {
         let n = self.repeat_count(context);
+        self.write_repeat_of(code, context, n, Self::write_commands);
+    }
+
+    /// REPEAT of a body that leaves the clock names as it found them.
+    pub fn write_repeat_of(
+        &mut self,
+        code: &mut Vec<u8>,
+        context: &mut Context,
+        n: usize,
+        write: impl FnOnce(&mut Self, &mut Vec<u8>, u8, &mut Context),
+    ) {
         let mut inner = context.clone();
         inner.times *= n;
         inner.nesting += 1;
-        for name in inner.held_names() {
-            inner.kept[usize::from(name)] = true;
-        }
+        inner.keep_held();
         let before = inner.clone();
         let body = self.new_body(&mut inner, |author, code, number, inner| {
-            author.write_commands(code, number, inner);
+            write(author, code, number, inner);
             author.restore(code, &before, inner);
         });
         let Some(b) = body else {
@@ -274,7 +294,8 @@ impl<'r> Author<'r> {
         }
     }
 
-    /// Makes the clock names at the end of a repeated body those of its beginning.
+    /// Makes the clock names at the end of a repeated body, or of one under a condition, those of its
+    /// beginning.
     pub fn restore(&mut self, code: &mut Vec<u8>, before: &Context, context: &mut Context) {
         for name in context.held_names() {
             let k = usize::from(name);

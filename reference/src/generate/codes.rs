@@ -17,3 +17,4 @@ pub const FETCH: u8 = 0x0D;
 pub const STORE: u8 = 0x0E;
 pub const ADD: u8 = 0x0F;
 pub const ATOM: u8 = 0x10;
+pub const CHOOSE: u8 = 0x11;

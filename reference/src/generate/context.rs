@@ -24,7 +24,7 @@ pub struct Context {
     pub in_finish: bool,
     /// How often this code runs.
     pub times: usize,
-    /// Clock names that a repeated body leaves as it found them.
+    /// Clock names that a repeated body, or one under a condition, leaves as it found them.
     pub kept: [bool; 8],
     /// Bodies nested so far, spawned ones too.
     pub nesting: usize,
@@ -64,6 +64,21 @@ impl Context {
         (0..8u8)
             .filter(|&k| self.accumulators[usize::from(k)] != Binding::Unbound)
             .collect()
+    }
+
+    /// A repeated body, or one under a condition, is to leave the clocks held here.
+    pub fn keep_held(&mut self) {
+        for name in self.held_names() {
+            self.kept[usize::from(name)] = true;
+        }
+    }
+
+    /// The context after a body that may or may not have run: clocks that it may have quiesced
+    /// count as quiesced.
+    pub fn doubt(&mut self, ran: &Context) {
+        for name in ran.clock_names(Name::Quiesced) {
+            self.clocks[usize::from(name)] = Name::Quiesced;
+        }
     }
 
     /// The context of an activity spawned here with a mask.

@@ -8,14 +8,15 @@ use super::context::{Binding, Context, Name};
 pub fn fault_bodies(fault: u8) -> usize {
     match fault {
         8 => 10,
+        3 => 4,
         _ => 3,
     }
 }
 
 impl Author<'_> {
-    /// The fault's code here, in a spawned body, a FINISH body or a REPEAT body.
+    /// The fault's code here, in a spawned body, a FINISH body, a REPEAT body or a CHOOSE body.
     pub fn write_fault_somewhere(&mut self, code: &mut Vec<u8>, context: &mut Context, fault: u8) {
-        let depth = self.rng.below(4);
+        let depth = self.rng.below(5);
         if depth == 0 || self.activities > 60 {
             return self.write_fault(code, context, fault);
         }
@@ -38,6 +39,7 @@ impl Author<'_> {
                 code.extend([ASYNC, b, mask]);
             }
             2 => code.extend([FINISH, b]),
+            3 => code.extend([PUT, 1, 0, 0, 0, CHOOSE, b]),
             _ => {
                 let runs = self.rng.between(1, 2) as u8;
                 code.extend([REPEAT, runs, b]);
@@ -114,11 +116,26 @@ impl Author<'_> {
         }
         let mut inner = context.clone();
         inner.in_finish = true;
+        let chosen = self.rng.chance(30);
         let body = self.new_body(&mut inner, |author, code, _, inner| {
-            author.write_async_masked(code, inner, mask);
+            if chosen {
+                author.write_chosen_async(code, inner, mask);
+            } else {
+                author.write_async_masked(code, inner, mask);
+            }
         });
         if let Some(b) = body {
             code.extend([FINISH, b]);
+        }
+    }
+
+    /// ASYNC with this mask in the body of a CHOOSE that runs it.
+    fn write_chosen_async(&mut self, code: &mut Vec<u8>, context: &mut Context, mask: u8) {
+        let body = self.new_body(context, |author, code, _, context| {
+            author.write_async_masked(code, context, mask);
+        });
+        if let Some(b) = body {
+            code.extend([PUT, 0, 0, 0, 1, CHOOSE, b]);
         }
     }
 

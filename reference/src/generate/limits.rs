@@ -121,7 +121,7 @@ fn raise_names(code: &mut [u8]) {
                 code[at + 2] += 1;
                 3
             }
-            FINISH => {
+            FINISH | CHOOSE => {
                 code[at + 1] += 1;
                 2
             }
@@ -221,15 +221,17 @@ fn limit_work(rng: &mut Rng, over: bool) -> Vec<u8> {
 fn doubled_work(rng: &mut Rng, over: bool) -> Vec<u8> {
     let mut all = Vec::new();
     for body in 1..15u8 {
-        all.push(match rng.below(3) {
+        all.push(match rng.below(4) {
             0 => vec![FINISH, body, FINISH, body, END],
             1 => vec![FINISH, body, REPEAT, 1, body, END],
+            2 => vec![CHOOSE, body, FINISH, body, END],
             _ => vec![REPEAT, 1, body, FINISH, body, END],
         });
     }
     all.push(vec![END]);
-    // The work is 65,533 so far.
-    let more = [FETCH, 3].repeat(2 + usize::from(over));
+    // The work is 65,533 so far. With hand 0 each CHOOSE spares the work of its body.
+    let mut more = vec![PUT, rng.below(2) as u8, 0, 0, 0];
+    more.extend([STORE, 3].repeat(1 + usize::from(over)));
     all[0].splice(0..0, more);
     table_of(&all)
 }
@@ -239,9 +241,10 @@ fn limit_bodies(rng: &mut Rng, over: bool) -> Vec<u8> {
     let bodies = 16 + u8::from(over);
     let mut all = Vec::new();
     for body in 0..bodies - 1 {
-        match rng.below(3) {
+        match rng.below(4) {
             0 => all.push(vec![FINISH, body + 1, END]),
             1 => all.push(vec![REPEAT, rng.between(1, 2) as u8, body + 1, END]),
+            2 => all.push(vec![PUT, 1, 0, 0, 0, CHOOSE, body + 1, END]),
             _ => all.push(vec![NEXT, FINISH, body + 1, FETCH, 1, END]),
         }
     }

@@ -82,13 +82,13 @@ fn random_list(rng: &mut Rng) -> Vec<Entry> {
 fn push_command(rng: &mut Rng, body: u8, bodies: u8, entries: &mut Vec<Entry>) {
     let name = rng.below(8) as u8;
     let cell = rng.below(16) as u8;
-    let code = rng.between(1, 0x10) as u8;
+    let code = rng.between(1, 0x11) as u8;
     let later: Vec<u8> = (body + 1..bodies).collect();
     let b = rng.choose(&later);
     entries.push(match (code, b) {
         (CLOCK | RESUME | DROP | OFFER | READ | RESET, _) => [code, name, 0, 0, 0],
         (ASYNC, Some(b)) => [code, b, rng.byte(), 0, 0],
-        (FINISH, Some(b)) => [code, b, 0, 0, 0],
+        (FINISH | CHOOSE, Some(b)) => [code, b, 0, 0, 0],
         (REPEAT, Some(b)) => [code, rng.low(3, 256) as u8, b, 0, 0],
         (ACC, _) => [code, name, rng.below(3) as u8, 0, 0],
         (PUT, _) => [code, rng.byte(), rng.byte(), rng.byte(), rng.byte()],
@@ -121,7 +121,7 @@ fn noise_entry(rng: &mut Rng) -> Entry {
     let code = match rng.below(10) {
         0 => rng.byte(),
         1 => END,
-        _ => rng.below(0x12) as u8,
+        _ => rng.below(0x13) as u8,
     };
     let mut entry = [code; 5];
     for byte in &mut entry[1..] {
@@ -299,8 +299,8 @@ fn remove_end(rng: &mut Rng, entries: &mut Vec<Entry>) {
 /// A first byte that is no command, in place of one or at the end.
 fn add_noise_code(rng: &mut Rng, entries: &mut Vec<Entry>) {
     let code = match rng.below(2) {
-        0 => 0x11,
-        _ => rng.between(0x11, 0xFF) as u8,
+        0 => 0x12,
+        _ => rng.between(0x12, 0xFF) as u8,
     };
     if rng.chance(70) {
         let at = rng.below(entries.len());
@@ -331,7 +331,7 @@ fn operand_out_of_range(rng: &mut Rng, entries: &mut [Entry]) {
 
 /// A b that is too low, too great, or another one in range.
 fn change_body(rng: &mut Rng, entries: &mut [Entry]) {
-    let names_body = |entry: &Entry| matches!(entry[0], ASYNC | FINISH | REPEAT);
+    let names_body = |entry: &Entry| matches!(entry[0], ASYNC | FINISH | REPEAT | CHOOSE);
     let Some(at) = find(rng, entries, names_body) else {
         return;
     };

@@ -55,7 +55,7 @@ fn noise_byte(rng: &mut Rng) -> u8 {
     match rng.below(10) {
         0 => rng.byte(),
         1..=3 => rng.below(4) as u8,
-        _ => rng.below(0x12) as u8,
+        _ => rng.below(0x13) as u8,
     }
 }
 
@@ -83,7 +83,7 @@ fn damage_atom(rng: &mut Rng, table: &mut [u8]) {
         .filter(|&at| table[at - 2] == ATOM)
         .collect();
     if let Some(at) = rng.choose(&atoms) {
-        table[at] = rng.below(0x12) as u8;
+        table[at] = rng.below(0x13) as u8;
     }
 }
 
