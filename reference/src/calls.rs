@@ -3,6 +3,7 @@
 //! A call on the bytes of a table reads it first. The calls named `.._on` take a table that has
 //! been read already, so numbers 1 to 12 cannot apply.
 
+use crate::account::Account;
 use crate::answer::{number, Outcome, Refusal};
 use crate::fit::is_fit;
 use crate::rules::{self, Sheet};
@@ -93,19 +94,31 @@ fn checked_awaited(table: &Table, state: &State, activity: usize) -> Result<u8, 
     rules::awaited(table, state, activity)
 }
 
-/// What a run gave: the answer of each step and the state after the last.
+/// What a run gave: the answer of each step, the state after the last and the account of its work.
 #[derive(Clone, Debug, PartialEq, Eq)]
 pub struct Run {
     pub answers: Vec<u8>,
     pub state: State,
+    pub account: Account,
 }
 
 /// Runs a table with a list of activity numbers; a refused table gives its number.
 pub fn run(table: &[u8], order: &[usize]) -> Result<Run, u8> {
     let table = Table::read(table).map_err(Refusal::number)?;
     let mut answers = Vec::with_capacity(order.len());
-    let state = run_on(&table, order, |answer, _| answers.push(answer));
-    Ok(Run { answers, state })
+    let mut account = Account::default();
+    let mut state = rules::start();
+    for &activity in order {
+        let spared = rules::spared(&table, &state, activity);
+        let answer = number(rules::step(&table, &mut state, activity));
+        account.enter(spared, answer);
+        answers.push(answer);
+    }
+    Ok(Run {
+        answers,
+        state,
+        account,
+    })
 }
 
 /// Runs a table already read and shows the answer and the state after each step.

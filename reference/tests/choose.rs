@@ -4,7 +4,6 @@ use reference::account::Account;
 use reference::bytes::{decode, encode};
 use reference::calls::{run, step};
 use reference::fit::broken_clauses;
-use reference::rules;
 use reference::state::{Frame, Standing, State};
 use reference::table::Table;
 use reference::walk::walk;
@@ -23,16 +22,9 @@ fn read(table: &[u8]) -> Table {
 
 /// The account of a run and the state after it.
 fn account(table: &[u8], order: &[usize]) -> (Account, State) {
-    let table = read(table);
-    let mut account = Account::default();
-    let mut state = rules::start();
-    for &activity in order {
-        let spared = rules::spared(&table, &state, activity);
-        let outcome = rules::step(&table, &mut state, activity);
-        account.enter(spared, reference::answer::number(outcome));
-    }
-    assert!(account.adds_up(&table, &state), "{account:?}");
-    (account, state)
+    let run = run(table, order).expect("an accepted table");
+    assert!(run.account.adds_up(&read(table), &run.state));
+    (run.account, run.state)
 }
 
 /// PUT 1, then CHOOSE of body 1, which is an END.
