@@ -1,13 +1,16 @@
 //! What a run contains: its commands, its faults, and how activities meet in it.
 
 mod call;
+mod past;
 
 use std::collections::BTreeMap;
 
-use reference::state::{Registration, State};
+use reference::account::Account;
+use reference::state::{Activity, Registration, State};
 use reference::table::{CellCommand, Command, Table};
 
 use call::Call;
+use past::{Past, Step};
 
 /// Whether a call shows a feature.
 type Test = fn(&Call) -> bool;
@@ -41,6 +44,8 @@ const FEATURES: &[(&str, Test)] = &[
         c.does(|x| matches!(x, Command::Cell(CellCommand::Add(_))))
     }),
     ("ATOM", |c| c.does(|x| matches!(x, Command::Atom(_)))),
+    ("CHOOSE that runs its body", |c| c.chooses()),
+    ("CHOOSE that skips its body", |c| c.skips()),
     ("F1 of RESUME", |c| {
         c.faults(1, |x| matches!(x, Command::Resume(_)))
     }),
@@ -79,6 +84,12 @@ const FEATURES: &[(&str, Test)] = &[
     ("F8 by a holder of a clock that another waits on", |c| {
         c.answer == 108 && c.keeps_another()
     }),
+    ("F8 within a CHOOSE body", |c| {
+        c.answer == 108 && c.conditions() > 0
+    }),
+    ("F3 in a CHOOSE body within an own FINISH", |c| {
+        c.answer == 103 && c.tops_choose()
+    }),
     ("F1 where F2 applies too", |c| {
         c.answer == 101 && c.asks(Registration::Quiesced)
     }),
@@ -105,6 +116,9 @@ const FEATURES: &[(&str, Test)] = &[
     }),
     ("waiting at NEXT for one behind on 2 clocks", |c| {
         c.waits(|x| *x == Command::Next) && c.behind_twice()
+    }),
+    ("waiting at NEXT within a CHOOSE body", |c| {
+        c.waits(|x| *x == Command::Next) && c.conditions() > 0
     }),
     ("waiting at the END of a FINISH body", |c| {
         c.waits(|x| *x == Command::End)
@@ -217,6 +231,35 @@ const FEATURES: &[(&str, Test)] = &[
     ("ASYNC in a REPEAT", |c| {
         c.does(|x| matches!(x, Command::Async { .. })) && c.repeats() > 0
     }),
+    ("CHOOSE run and skipped by one activity", |c| {
+        c.chooses() && c.past.skipped(c.activity) || c.skips() && c.past.ran(c.activity)
+    }),
+    (
+        "CHOOSE within a REPEAT, skipped in one run and run in another",
+        |c| (c.chooses() || c.skips()) && c.past.otherwise(c),
+    ),
+    ("CHOOSE that runs its body after READ", |c| {
+        c.chooses() && c.past.has_read(c.activity)
+    }),
+    ("CHOOSE that runs its body, a child's first command", |c| {
+        c.chooses() && c.begins()
+    }),
+    ("CHOOSE that skips its body, a child's first command", |c| {
+        c.skips() && c.begins()
+    }),
+    ("CHOOSE nested 2 deep", |c| c.conditions() > 1),
+    ("a CHOOSE body within a FINISH body", |c| {
+        c.tops_choose() && c.finishes() > 0
+    }),
+    ("FINISH within a CHOOSE body", |c| {
+        c.tops_finish() && c.conditions() > 0
+    }),
+    ("a clock lent within a CHOOSE body", |c| {
+        c.lends() > 0 && c.conditions() > 0
+    }),
+    ("END of a CHOOSE body past an unended child", |c| {
+        c.does(|x| *x == Command::End) && c.tops_choose() && c.unended_child()
+    }),
     ("10 bodies on a stack", |c| {
         c.spawned().is_some_and(|own| own.depth > 9)
     }),
@@ -247,20 +290,29 @@ const FEATURES: &[(&str, Test)] = &[
     ("16 accumulators", |c| c.before.accumulators == 16),
 ];
 
+/// A finished run without a fault of which CHOOSE spared work, and one in which each CHOOSE ran its body.
+const SPARED: &str = "an end without a fault, work spared";
+const NONE_SPARED: &str = "an end without a fault, each CHOOSE having run its body";
+
 /// The features' names.
 pub fn names() -> Vec<&'static str> {
-    FEATURES.iter().map(|(name, _)| *name).collect()
+    let names = FEATURES.iter().map(|(name, _)| *name);
+    names.chain([SPARED, NONE_SPARED]).collect()
 }
 
 /// The features seen in one run.
 pub struct Watch {
     seen: [bool; FEATURES.len()],
+    past: Past,
+    end: Option<&'static str>,
 }
 
 impl Default for Watch {
     fn default() -> Watch {
         Watch {
             seen: [false; FEATURES.len()],
+            past: Past::default(),
+            end: None,
         }
     }
 }
@@ -272,16 +324,31 @@ impl Watch {
             before,
             activity,
             answer,
+            past: &self.past,
         };
         for (seen, (_, test)) in self.seen.iter_mut().zip(FEATURES) {
             *seen = *seen || test(&call);
+        }
+        let step = Step::of(&call);
+        self.past.enter(step);
+    }
+
+    /// How the run ended.
+    pub fn end(&mut self, state: &State, account: &Account) {
+        let faulted = state.spawned().iter().any(Activity::has_faulted);
+        if state.is_finished() && !faulted {
+            self.end = match account.skipped {
+                0 => self.past.has_chosen().then_some(NONE_SPARED),
+                _ => Some(SPARED),
+            };
         }
     }
 
     /// Adds this run to the runs with each feature.
     pub fn count(&self, runs: &mut BTreeMap<&'static str, u64>) {
         let seen = self.seen.iter().zip(FEATURES);
-        for (_, (name, _)) in seen.filter(|(seen, _)| **seen) {
+        let names = seen.filter(|(seen, _)| **seen).map(|(_, (name, _))| *name);
+        for name in names.chain(self.end) {
             *runs.entry(name).or_default() += 1;
         }
     }

@@ -1,5 +1,6 @@
 //! Random tables: the start, a run at every point, the run in one call.
 
+use reference::account::Account;
 use reference::bytes::{encode, start};
 use reference::calls;
 use reference::fit::is_fit;
@@ -79,6 +80,7 @@ fn run_agrees(job: &Job, order: &[usize], kept: Vec<usize>, tally: &mut Tally) -
     let mut state = rules::start();
     let mut bytes = encode(&state);
     let mut watch = Watch::default();
+    let mut account = Account::default();
     let mut answers = Vec::with_capacity(order.len());
     let mut points = Vec::new();
     for (k, &activity) in order.iter().enumerate() {
@@ -93,6 +95,7 @@ fn run_agrees(job: &Job, order: &[usize], kept: Vec<usize>, tally: &mut Tally) -
         let before = state.clone();
         let answer = step_agrees(job, &mut bytes, &mut state, activity);
         watch.see(&job.table, &before, activity, answer);
+        account.enter(rules::spared(&job.table, &before, activity), answer);
         tally.meet(answer);
         answers.push(answer);
     }
@@ -101,6 +104,8 @@ fn run_agrees(job: &Job, order: &[usize], kept: Vec<usize>, tally: &mut Tally) -
     points.push(bytes);
     tally.steps += order.len() as u64;
     tally.ended += u64::from(state.is_finished());
+    account_agrees(job, &account, &state);
+    watch.end(&state, &account);
     watch.count(&mut tally.features);
     one_call_agrees(job, order, &answers, &state);
     points
@@ -128,6 +133,16 @@ fn counted(job: &Job, state: &State, point: usize, next: usize) -> Vec<usize> {
     counted
 }
 
+/// What was taken and what CHOOSE spared are the work of a run finished without a fault; else they are less.
+fn account_agrees(job: &Job, account: &Account, state: &State) {
+    assert!(
+        account.adds_up(&job.table, state),
+        "{}: {account:?} of work {}",
+        job.name,
+        job.table.work()
+    );
+}
+
 /// The run in one call, without the numbers that are no byte: those are turned down.
 fn one_call_agrees(job: &Job, order: &[usize], answers: &[u8], state: &State) {
     let numbers = order.iter().zip(answers);
@@ -148,5 +163,6 @@ fn whole_agrees(job: &Job, rng: &mut Rng) {
     let order = order(rng, &job.bytes, OrderKind::Nonsense, WHOLE);
     let run = calls::run(&job.bytes, &order).expect("an accepted table");
     assert!(run.state.is_finished(), "{}: the whole run", job.name);
+    account_agrees(job, &run.account, &run.state);
     one_call_agrees(job, &order, &run.answers, &run.state);
 }

@@ -5,6 +5,8 @@ use reference::state::{Activity, Frame, Hold, Registration, Standing, State};
 use reference::table::{Command, Table};
 use reference::Fault;
 
+use super::past::Past;
+
 /// The standing of one that has passed a fault on.
 const PASSED_ON: Standing = Standing::Faulted(Fault::FaultInside);
 
@@ -14,6 +16,8 @@ pub struct Call<'a> {
     pub before: &'a State,
     pub activity: usize,
     pub answer: u8,
+    /// The calls before this one.
+    pub past: &'a Past,
 }
 
 impl Call<'_> {
@@ -26,7 +30,7 @@ impl Call<'_> {
         &self.before.acts[self.activity]
     }
 
-    fn command(&self) -> Option<&Command> {
+    pub fn command(&self) -> Option<&Command> {
         let top = self.spawned()?.top()?;
         let place = self.table.place(top.body, top.offset)?;
         Some(&place.command)
@@ -146,6 +150,37 @@ impl Call<'_> {
         self.stacked(|x| matches!(x, Command::Repeat { .. }))
     }
 
+    pub fn conditions(&self) -> usize {
+        self.stacked(|x| matches!(x, Command::Choose { .. }))
+    }
+
+    /// Whether a CHOOSE was done and runs its body.
+    pub fn chooses(&self) -> bool {
+        self.is_choose() && self.own().hand != 0
+    }
+
+    /// Whether a CHOOSE was done and skips its body.
+    pub fn skips(&self) -> bool {
+        self.is_choose() && self.own().hand == 0
+    }
+
+    fn is_choose(&self) -> bool {
+        self.does(|x| matches!(x, Command::Choose { .. }))
+    }
+
+    /// Whether a spawned activity is at its first command.
+    pub fn begins(&self) -> bool {
+        self.activity > 0 && self.own().depth == 1 && self.own().frames[0].offset == 0
+    }
+
+    /// Whether the top body is a CHOOSE's.
+    pub fn tops_choose(&self) -> bool {
+        let stack = self.spawned().map_or(&[][..], Activity::stack);
+        let below = stack.iter().rev().nth(1);
+        let place = below.and_then(|frame| self.table.place(frame.body, frame.offset));
+        place.is_some_and(|place| matches!(place.command, Command::Choose { .. }))
+    }
+
     /// Whether the top body is a FINISH's.
     pub fn tops_finish(&self) -> bool {
         let top = self.spawned().and_then(Activity::top);
@@ -250,6 +285,12 @@ impl Call<'_> {
     pub fn has_child(&self) -> bool {
         let mut spawned = self.before.spawned().iter().skip(1);
         spawned.any(|other| usize::from(other.spawner) == self.activity)
+    }
+
+    pub fn unended_child(&self) -> bool {
+        let acts = &self.before.acts;
+        let mut below = self.descendants().into_iter();
+        below.any(|i| !acts[i].has_ended() && self.is_child(i))
     }
 
     pub fn unended_below(&self) -> bool {
