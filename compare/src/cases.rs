@@ -1,5 +1,6 @@
 //! Tables by hand, and states by hand: a reached state with one edit, and the number that both interpreters answer.
 
+mod chosen;
 mod counts;
 mod numbers;
 mod passed_on;
@@ -41,7 +42,7 @@ pub fn all_agree(tally: &mut Tally) {
     tables::all_agree(tally);
     let mut tried = [false; CLAUSES.len()];
     let numbers = numbers::CASES.iter().chain(counts::CASES);
-    let numbers = numbers.chain(passed_on::CASES);
+    let numbers = numbers.chain(passed_on::CASES).chain(chosen::CASES);
     for case in unfit::CASES.iter().chain(numbers) {
         agrees(case, tally);
         case.breaks.iter().for_each(|&clause| tried[clause] = true);
@@ -55,6 +56,11 @@ fn agrees(case: &Case, tally: &mut Tally) {
     assert!(
         run.answers.iter().all(|&a| accepted(a)),
         "{}: order",
+        case.name
+    );
+    assert!(
+        run.account.adds_up(&job.table, &run.state),
+        "{}: work",
         case.name
     );
     let reached = encode(&run.state);

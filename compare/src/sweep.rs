@@ -4,14 +4,13 @@ use reference::answer::number;
 use reference::bytes::{encode, LENGTH};
 use reference::generate::{fault_table, order, program_table, OrderKind, Rng};
 use reference::rules;
-use reference::state::State;
+use reference::state::{Activity, Frame, State};
+use reference::table::{Command, Table};
 
 use crate::cores;
 use crate::points::{state_agrees, Job};
 use crate::tally::Tally;
 
-/// How many states are swept.
-const STATES: u64 = 4;
 /// The bytes of a state are shared out in so many parts.
 const PARTS: u64 = 56;
 
@@ -24,9 +23,13 @@ struct Reached {
 /// Every byte of some states of tables from the seed.
 pub fn all_agree(seed: u64) -> Tally {
     let mut rng = Rng::new(seed);
-    let mut states: Vec<Reached> = (1..STATES).map(|_| reached(&mut rng)).collect();
-    states.push(passing_on(&mut rng));
-    cores::share(STATES * PARTS, |index, tally| {
+    let states = [
+        reached(&mut rng, |_, _| true),
+        reached(&mut rng, |_, _| true),
+        reached(&mut rng, in_choose_body),
+        passing_on(&mut rng),
+    ];
+    cores::share(states.len() as u64 * PARTS, |index, tally| {
         let swept = &states[(index / PARTS) as usize];
         let length = LENGTH / PARTS as usize;
         let from = (index % PARTS) as usize * length;
@@ -36,8 +39,8 @@ pub fn all_agree(seed: u64) -> Tally {
     })
 }
 
-/// A state with a little of everything, halfway through the run of a short table.
-fn reached(rng: &mut Rng) -> Reached {
+/// A state with a little of everything and of this kind, halfway through the run of a short table.
+fn reached(rng: &mut Rng, kind: fn(&Table, &State) -> bool) -> Reached {
     loop {
         let table = program_table(rng);
         let order = order(rng, &table, OrderKind::Drive, 500);
@@ -48,7 +51,7 @@ fn reached(rng: &mut Rng) -> Reached {
         for &activity in &order[..order.len() / 2] {
             let _ = rules::step(&job.table, &mut state, activity);
         }
-        if table.len() < 150 && is_rich(&state) {
+        if table.len() < 150 && is_rich(&state) && kind(&job.table, &state) {
             return Reached { job, state };
         }
     }
@@ -82,6 +85,16 @@ fn is_rich(state: &State) -> bool {
         && spawned.iter().any(|a| a.has_ended())
         && spawned.iter().filter(|a| a.held().count() > 0).count() > 1
         && spawned.iter().any(|a| a.stack().len() > 2)
+}
+
+/// Whether an activity is in a body that a CHOOSE runs.
+fn in_choose_body(table: &Table, state: &State) -> bool {
+    let runs = |pair: &[Frame]| {
+        let place = table.place(pair[0].body, pair[0].offset);
+        place.is_some_and(|place| matches!(place.command, Command::Choose { .. }))
+    };
+    let mut stacks = state.spawned().iter().map(Activity::stack);
+    stacks.any(|stack| stack.windows(2).any(runs))
 }
 
 /// The byte with each of its bits changed, 0, and 255; a step of each activity in turn.

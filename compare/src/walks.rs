@@ -67,6 +67,8 @@ fn by_hand() -> Vec<Files> {
     let mut longest = vec![3, 7, 255, 1];
     longest.extend([13, 0].repeat(253));
     longest.extend([0, 7, 254, 2, 0, 0]);
+    // REPEAT 2 of a CHOOSE, skipped in the first run: work 10, taken 9.
+    let skipped: &[u8] = &[3, 7, 2, 1, 0, 17, 2, 12, 5, 0, 0, 0, 0, 0];
     let nexts = [&[1][..], &[1; 2_046], &[0]].concat();
     vec![
         files(None, None),
@@ -77,6 +79,7 @@ fn by_hand() -> Vec<Files> {
         files(Some(printed), Some(&[])),
         files(Some(printed), Some(&[0, 0, 0, 0, 1, 0, 0, 1, 1, 0])),
         files(Some(printed), Some(&[0, 255, 128, 64, 63, 1, 0])),
+        files(Some(skipped), Some(&[0; 10])),
         files(Some(&nexts), Some(&[0; 4_100])),
         files(Some(&[&nexts[..], &[0]].concat()), Some(&[0])),
         files(Some(&[7; 70_000]), Some(&[0])),

@@ -10,19 +10,19 @@ use reference::Fault;
 use super::{Case, Edit};
 
 // The clauses, by their places in the paper.
-const LIMIT: usize = 0;
-const STEPS: usize = 1;
-const RUNS: usize = 2;
-const PLACE: usize = 3;
-const NO_BODY: usize = 4;
-const ENDED: usize = 5;
-const NOT_RUN: usize = 6;
-const TWO_NAMES: usize = 7;
-const MEETING: usize = 8;
-const RISE: usize = 9;
-const SPAWNER: usize = 10;
-const UNMADE: usize = 11;
-const UNUSED: usize = 12;
+pub const LIMIT: usize = 0;
+pub const STEPS: usize = 1;
+pub const RUNS: usize = 2;
+pub const PLACE: usize = 3;
+pub const NO_BODY: usize = 4;
+pub const ENDED: usize = 5;
+pub const NOT_RUN: usize = 6;
+pub const TWO_NAMES: usize = 7;
+pub const MEETING: usize = 8;
+pub const RISE: usize = 9;
+pub const SPAWNER: usize = 10;
+pub const UNMADE: usize = 11;
+pub const UNUSED: usize = 12;
 
 /// Body 0: CLOCK 0, ACC 0 0, ASYNC 1 01, ASYNC 4 00, FINISH 2, END.
 /// Body 1: NEXT, ATOM of FETCH 0 and ADD 1, END. Body 2: REPEAT 3 of body 3, END.
