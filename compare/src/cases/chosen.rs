@@ -193,6 +193,14 @@ pub const CASES: &[Case] = &[
     ),
     case("the next round", ROUNDS, &[0; 4], nothing, (0, 0)),
     case("15 after a skipped body", BARE, &[0, 0], nothing, (0, 15)),
+    case("CHOOSE past a child", READER, &[0; 3], nothing, (0, 0)),
+    case(
+        "CHOOSE past a child, hand 0",
+        READER,
+        &[0; 3],
+        hand::<0>,
+        (0, 0),
+    ),
     // Limits
     case("CHOOSE needs no room", BARE, &[], full::<0>, (0, 0)),
     case(
