@@ -127,7 +127,7 @@ static int zeros(void)
 static void starts(void)
 {
     static const struct { uint8_t number, bytes, table[10]; } row[] = {
-        {1, 0, {0}}, {1, 1, {1}}, {2, 2, {0x00, 0x00}}, {2, 2, {0x11, 0x00}}, {3, 2, {0x01, 0x11}}, {4, 2, {0x01, 0x01}},
+        {1, 0, {0}}, {1, 1, {1}}, {2, 2, {0x00, 0x00}}, {2, 2, {0x11, 0x00}}, {3, 2, {0x01, 0x12}}, {4, 2, {0x01, 0x11}}, {4, 2, {0x01, 0x01}},
         {5, 4, {0x01, 0x02, 0x08, 0x00}}, {6, 4, {0x01, 0x06, 0x00, 0x00}}, {7, 5, {0x01, 0x10, 0x01, 0x01, 0x00}},
         {8, 3, {0x01, 0x00, 0x00}}, {9, 10, {0x03, 0x07, 0x40, 0x01, 0x00, 0x05, 0x02, 0x00, 0x00, 0x00}}};
     uint64_t set = 77;
@@ -248,6 +248,25 @@ static void passed_on(void)
     check(answer == 13, "there is no F9", answer);
 }
 
+/* A CHOOSE in a REPEAT: skipped with hand 0, run with hand 5; the body's 8 bytes, of which a run left gives 13. */
+static void chosen(void)
+{
+    static const uint8_t job[] = {0x03, 0x07, 0x02, 0x01, 0x00, 0x11, 0x02, 0x0C, 0x05, 0x00, 0x00, 0x00, 0x00, 0x00};
+    static const uint8_t body[] = {0, 0, 2, 0, 0, 0, 0, 0};
+    unsigned k, answer = stepmachine_start(job, sizeof job, state, STATE);
+    for (k = 0; k < 9; k++) {
+        if (k == 5) {
+            check(state[464 + 7] == 3 && memcmp(state + 464 + 80 + 16, body, sizeof body) == 0, "a CHOOSE body", state[464 + 7]);
+            state[464 + 80 + 16 + 3] = 1;
+            check(stepmachine_step(job, sizeof job, state, STATE, 0) == 13, "a CHOOSE body has no runs", k);
+            state[464 + 80 + 16 + 3] = 0;
+        }
+        answer = stepmachine_step(job, sizeof job, state, STATE, 0);
+        check(answer == 0, "a step", k);
+    }
+    check(stepmachine_step(job, sizeof job, state, STATE, 0) == 15 && state[4] == 9, "nine of ten steps", state[4]);
+}
+
 /* The sheet where main waits at the meeting: main quiesced, its child live. */
 static void sheet(void)
 {
@@ -310,6 +329,7 @@ int main(void)
     example();
     fault();
     passed_on();
+    chosen();
     counts();
     sheet();
     sheet_rooms();

@@ -73,6 +73,7 @@ fn a_list_and_its_table_make_each_other() {
 #[test]
 fn an_entry_has_its_operands_as_they_stand_in_a_table() {
     both(&[[0x0C, 0x78, 0x56, 0x34, 0x12], END], &[0x01, 0x0C, 0x78, 0x56, 0x34, 0x12, 0x00]);
+    both(&[one(0x11, 1), END, END], &[0x02, 0x11, 0x01, 0x00, 0x00]);
     both(&[two(0x07, 3, 1), END, two(0x08, 7, 2), END], &[0x02, 0x07, 0x03, 0x01, 0x00, 0x08, 0x07, 0x02, 0x00]);
 }
 
@@ -96,15 +97,16 @@ fn bytes_that_a_command_lacks_are_not_looked_at() {
 // Number 4 is missing: no list makes a cut table.
 #[test]
 fn a_list_is_refused_as_its_table() {
-    let rows: [(u8, &[Entry]); 17] = [
+    let rows: [(u8, &[Entry]); 18] = [
         (1, &[]),
         (2, &[NEXT]),
-        (3, &[one(0x11, 0), END]),
+        (3, &[one(0x12, 0), END]),
         (3, &[NONE, END]),
         (5, &[one(0x02, 8), END]),
         (5, &[two(0x08, 0, 3), END]),
         (5, &[one(0x10, 0), END]),
         (6, &[one(0x06, 0), END]),
+        (6, &[one(0x11, 1), END]),
         (6, &[END, two(0x05, 1, 0), END]),
         (7, &[one(0x10, 1), NEXT, END]),
         (7, &[one(0x10, 2), one(0x0D, 0), END]),

@@ -67,6 +67,20 @@ fn a_finish_passes_a_fault_on() {
     assert_eq!(ready(&table, &state), Ok(0));
 }
 
+// REPEAT 2 of a CHOOSE and a PUT 5: skipped with hand 0, run with hand 5.
+#[test]
+fn choose_runs_its_body_if_the_hand_is_not_0() {
+    let table = [0x03, 0x07, 0x02, 0x01, 0x00, 0x11, 0x02, 0x0C, 0x05, 0x00, 0x00, 0x00, 0x00, 0x00];
+    let mut state = [0; 13776];
+    assert_eq!(start(&table, &mut state), 0);
+    for depth in [2, 2, 2, 2, 3, 2, 2, 1, 0] {
+        assert_eq!(step(&table, &mut state, 0), 0);
+        assert_eq!(state[464 + 7], depth);
+    }
+    assert_eq!(step(&table, &mut state, 0), 15);
+    assert_eq!(state[4], 9);
+}
+
 #[test]
 fn who_is_answered_with_16_waits_for_somebody() {
     for steps in 0..=ORDER.len() {
