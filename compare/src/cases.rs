@@ -52,14 +52,14 @@ pub fn all_agree(tally: &mut Tally) {
 
 fn agrees(case: &Case, tally: &mut Tally) {
     let job = Job::read(case.name, case.table).expect("an accepted table");
-    let run = calls::run(case.table, case.order).expect("an accepted table");
+    let (run, account) = calls::accounted(case.table, case.order).expect("an accepted table");
     assert!(
         run.answers.iter().all(|&a| accepted(a)),
         "{}: order",
         case.name
     );
     assert!(
-        run.account.adds_up(&job.table, &run.state),
+        account.adds_up(&job.table, &run.state),
         "{}: work",
         case.name
     );

@@ -161,8 +161,8 @@ fn one_call_agrees(job: &Job, order: &[usize], answers: &[u8], state: &State) {
 /// A run to its end, in one call.
 fn whole_agrees(job: &Job, rng: &mut Rng) {
     let order = order(rng, &job.bytes, OrderKind::Nonsense, WHOLE);
-    let run = calls::run(&job.bytes, &order).expect("an accepted table");
+    let (run, account) = calls::accounted(&job.bytes, &order).expect("an accepted table");
     assert!(run.state.is_finished(), "{}: the whole run", job.name);
-    account_agrees(job, &run.account, &run.state);
+    account_agrees(job, &account, &run.state);
     one_call_agrees(job, &order, &run.answers, &run.state);
 }

@@ -94,16 +94,23 @@ fn checked_awaited(table: &Table, state: &State, activity: usize) -> Result<u8, 
     rules::awaited(table, state, activity)
 }
 
-/// What a run gave: the answer of each step, the state after the last and the account of its work.
+/// What a run gave: the answer of each step and the state after the last.
 #[derive(Clone, Debug, PartialEq, Eq)]
 pub struct Run {
     pub answers: Vec<u8>,
     pub state: State,
-    pub account: Account,
 }
 
 /// Runs a table with a list of activity numbers; a refused table gives its number.
 pub fn run(table: &[u8], order: &[usize]) -> Result<Run, u8> {
+    let table = Table::read(table).map_err(Refusal::number)?;
+    let mut answers = Vec::with_capacity(order.len());
+    let state = run_on(&table, order, |answer, _| answers.push(answer));
+    Ok(Run { answers, state })
+}
+
+/// The same run with the account of its work, which looks at what each step would spare.
+pub fn accounted(table: &[u8], order: &[usize]) -> Result<(Run, Account), u8> {
     let table = Table::read(table).map_err(Refusal::number)?;
     let mut answers = Vec::with_capacity(order.len());
     let mut account = Account::default();
@@ -114,11 +121,7 @@ pub fn run(table: &[u8], order: &[usize]) -> Result<Run, u8> {
         account.enter(spared, answer);
         answers.push(answer);
     }
-    Ok(Run {
-        answers,
-        state,
-        account,
-    })
+    Ok((Run { answers, state }, account))
 }
 
 /// Runs a table already read and shows the answer and the state after each step.

@@ -2,7 +2,7 @@
 
 use reference::account::Account;
 use reference::bytes::{decode, encode};
-use reference::calls::{run, step};
+use reference::calls::{accounted, run, step};
 use reference::fit::broken_clauses;
 use reference::state::{Frame, Standing, State};
 use reference::table::Table;
@@ -22,9 +22,9 @@ fn read(table: &[u8]) -> Table {
 
 /// The account of a run and the state after it.
 fn account(table: &[u8], order: &[usize]) -> (Account, State) {
-    let run = run(table, order).expect("an accepted table");
-    assert!(run.account.adds_up(&read(table), &run.state));
-    (run.account, run.state)
+    let (run, account) = accounted(table, order).expect("an accepted table");
+    assert!(account.adds_up(&read(table), &run.state));
+    (account, run.state)
 }
 
 /// PUT 1, then CHOOSE of body 1, which is an END.

@@ -3,7 +3,7 @@
 use std::fs;
 use std::path::Path;
 
-use reference::calls::run;
+use reference::calls::accounted;
 use reference::walk::walk;
 
 fn folder(name: &str) -> std::path::PathBuf {
@@ -29,8 +29,8 @@ fn each_walk_prints_what_is_expected() {
 fn the_sum_without_the_string_that_reads_zero() {
     let file = |name: &str| fs::read(folder("skipped").join(name)).expect("a file of the example");
     let order: Vec<usize> = file("ORDER").into_iter().map(usize::from).collect();
-    let run = run(&file("JOB"), &order).expect("an accepted table");
+    let (run, account) = accounted(&file("JOB"), &order).expect("an accepted table");
     assert!(run.state.is_finished());
-    assert_eq!((run.account.spared, run.account.skipped), (3, 1));
+    assert_eq!((account.spared, account.skipped), (3, 1));
     assert_eq!((run.state.cells[8], run.state.cells[15]), (12, 12));
 }

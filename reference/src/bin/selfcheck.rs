@@ -205,8 +205,8 @@ fn check_run(rng: &mut Rng, bytes: &[u8], table: &Table, tally: &mut Tally) {
     check_end(table, &state, &account, order.len(), tally);
     let run = calls::run(bytes, &order).expect("an accepted table");
     assert_eq!(run.state, state);
-    assert_eq!(run.account, account);
     assert_eq!(run.answers.len(), order.len());
+    assert_eq!(calls::accounted(bytes, &order), Ok((run, account)));
 }
 
 fn column(answer: u8) -> usize {
