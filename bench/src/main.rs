@@ -1,5 +1,6 @@
 //! Prints nanoseconds a step, and a call on a list or a table, of the machine beside the second interpreter, and draws how steps grow.
 //! Usage: bench FILE.svg
+mod bodies;
 mod finishes;
 mod jobs;
 mod lent;
@@ -93,6 +94,15 @@ fn finishes() {
     }
 }
 
+/// Bodies begun and left, printed.
+fn bodies() {
+    println!("\nnanoseconds a step of one activity that begins and leaves bodies of a bare END");
+    println!("{:<42} {:>10} {:>10} {:>7}", "command", "machine", "reference", "ratio");
+    for (name, pace) in bodies::paces() {
+        println!("{name:<42} {:>10.1} {:>10.1} {:>7.2}", pace.machine, pace.reference, pace.ratio());
+    }
+}
+
 fn main() {
     let file = std::env::args().nth(1).expect("the file to draw to");
     println!("nanoseconds a step, medians; machine and reference in turn");
@@ -101,6 +111,7 @@ fn main() {
     readings();
     ready_sets();
     finishes();
+    bodies();
     println!("\nas the activities grow");
     let activities = grown(ACTIVITIES.into_iter().map(|n| (n, SHORT)));
     println!("\nas the table grows");

@@ -22,7 +22,7 @@ pub enum Status {
 
 // A body on an activity's stack.
 pub struct Frame {
-    // The place of its command: bytes from the body's first command. Below the top it stays on the FINISH or REPEAT that runs the body above.
+    // The place of its command: bytes from the body's first command. Below the top it stays on the FINISH, REPEAT or CHOOSE that runs the body above.
     pub offset: u16,
     pub body: u8,
     // Runs left of a REPEAT body, the one under way counted; 0 for others.
