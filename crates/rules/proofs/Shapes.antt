@@ -1,6 +1,5 @@
 -- The shape of each command's effect: eighteen commands, six kinds. The proofs go by the kind, so that only this file has an arm for each command.
 use Prim.Native.Nat.{ℕ, zero, suc, _+_, _-_, _*_}
-use native.Mathlib.Nat.{suc-mul}
 use native.Mathlib.Omega.{arith}
 use mathlib.Core.List.{List, [], _∷_}
 use mathlib.Core.Bool.{Bool, true, false, cond}
@@ -22,6 +21,7 @@ use Rattle.rules.specs.Tree.{isFinish}
 use Rattle.rules.specs.Faults.{Env, faultFor}
 use Rattle.rules.specs.Runs.{skips}
 use Rattle.rules.proofs.Tests.{true-false}
+use Rattle.rules.proofs.Sums.{times-pred}
 use Rattle.rules.specs.Effects.{Effect, endOf, nobody, nextOf, past, one, child, pushed, withHolds, withRegister, withNames, effectOf, repeatOf, chooseOf, alone, spawnedCount, clockedCount, writtenCount, Spawned, Write, keep, make, offer, reset, Stored, withStores}
 
 -- The command is NEXT.
@@ -92,21 +92,13 @@ alike-names n v = record { frames = refl; depth = refl; status = refl; spawner =
 alike-self : {made : ℕ} {clocked : Bool} {a : Activity} → Alike made clocked a a
 alike-self = record { frames = refl; depth = refl; status = refl; spawner = refl; names = refl; holds = kept refl }
 
--- One run and those after it.
-suc-times : (n x : ℕ) → suc n * x ≡ x + (suc n - 1) * x
-suc-times n x = let e : suc n - 1 ≡ n = omega arith in rw e (omega (arith, suc-mul n x))
-
--- One run.
-one-time : (x : ℕ) → 1 * x ≡ x + (0 - 1) * x
-one-time x = omega arith
-
 -- CHOOSE, with hand 0 or another.
 choosing : (p : Program) (e : Env) (i : ℕ) (a : Activity) (b : ℕ) (z : Bool) → eqb (a .register) 0 ≡ z
     → Kind p e i a (Choose b) (alone (cond z (past p a) (pushed a b 0 0)))
 unfolding isEnd isNext skips
 choosing p e i a b true z = moves a refl refl (times-is (Choose b) ∙ rw z) alike-self refl refl
 choosing p e i a b false z =
-    enters 0 b (record { goes = refl; quiet = refl; plain = refl; some = refl; body = refl; often = one-time; chosen = rw z }) refl refl
+    enters 0 b (record { goes = refl; quiet = refl; plain = refl; some = refl; body = refl; often = λ x. omega arith; chosen = rw z }) refl refl
 
 -- Each command's kind.
 pub kind : (p : Program) (e : Env) (i : ℕ) (a : Activity) (c : Command) (inner : List Command) → Kind p e i a c (effectOf p e i a c inner)
@@ -120,7 +112,7 @@ kind p e i a (Async b m) inner = forks b m refl refl refl
 kind p e i a (Finish b) inner = opens b refl refl refl
 kind p e i a (Repeat zero b) inner = moves a refl refl (times-is (Repeat zero b)) alike-self refl refl
 kind p e i a (Repeat (suc n) b) inner =
-    enters (suc n) b (record { goes = refl; quiet = refl; plain = refl; some = refl; body = refl; often = suc-times n; chosen = refl }) refl refl
+    enters (suc n) b (record { goes = refl; quiet = refl; plain = refl; some = refl; body = refl; often = λ x. times-pred (suc n) x (omega arith); chosen = refl }) refl refl
 kind p e i a (Acc n o) inner = moves _ refl refl (times-is (Acc n o)) (alike-names n (e .accumulator + 1)) refl refl
 kind p e i a (Offer n) inner = moves a refl refl (times-is (Offer n)) alike-self refl refl
 kind p e i a (Read n) inner = moves _ refl refl (times-is (Read n)) (alike-register _) refl refl

@@ -1,5 +1,5 @@
 -- What a command's step does to the stack of its activity, to its open finishes and to what is pending: one lemma for each, by the kind of the command.
-use Prim.Native.Nat.{ℕ, suc, _+_, _-_, _*_, _≤_, _<_}
+use Prim.Native.Nat.{ℕ, _+_, _-_, _*_, _≤_, _<_}
 use native.Mathlib.Omega.{arith}
 use native.Mathlib.Nat.{zero-mul}
 use mathlib.Core.List.{[], map}
@@ -8,13 +8,13 @@ use mathlib.Core.Path.{_≡_, refl, sym, ap, _∙_, subst}
 use mathlib.Core.Logic.{_⊎_, inl, inr}
 use lib.ListN.{length}
 use lib.Dec.{ltb, leb}
-use borrow.Author.Tests.{ltb-true, ltb-false, leb-true, leb-false, lt-leb, eqb-true}
+use borrow.Author.Tests.{ltb-true, ltb-false, leb-true, leb-false, lt-leb}
 use Rattle.program.specs.declared.command.Command.{Command}
 use Rattle.program.specs.declared.command.Command.the-variants.{Next}
 use Rattle.rules.specs.declared.state.Status.the-variants.{Running, AtBarrier, Ended}
 use Rattle.rules.specs.declared.state.Activity.{Activity}
 use Rattle.rules.specs.declared.state.State.{State}
-use Rattle.program.specs.Command.{opcode, isEnd, named, times}
+use Rattle.program.specs.Command.{isEnd, named, times}
 use Rattle.program.specs.Bodies.{Program, tailOf}
 use Rattle.program.specs.Count.{tally}
 use Rattle.program.proofs.Shape.{Accepted}
@@ -25,7 +25,6 @@ use Rattle.rules.specs.Tree.{here, isFinish, rest}
 use Rattle.rules.specs.Effects.{Spawned, nobody, one, Effect, past, pushed, endOf, again, popped, stopped, nextOf, withHolds, envOf, child}
 use Rattle.rules.specs.Runs.{skips}
 use Rattle.rules.proofs.Tests.{decide, true-false}
-use Rattle.rules.proofs.Sums.{times-pred}
 use Rattle.rules.proofs.Shapes.{isNext, meets, Kind, ends, forks, opens, enters, moves, born, OfChild}
 use Rattle.rules.proofs.Tree.{Open}
 use Rattle.rules.proofs.Containment.{Opening, open-before, Was, begun-now}

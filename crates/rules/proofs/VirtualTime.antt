@@ -1,7 +1,7 @@
 -- Virtual time: there is a time of each activity and a base of each clock, with phase + base = time for every hold. Passing raises the time by one, a
 -- child has its spawner's, a new clock's base is its maker's. With it, of each activity by itself: quiesced on all own clocks at a barrier, nothing
 -- held when ended, the spawner lower than the child.
-use Prim.Native.Nat.{ℕ, suc, _+_, _≤_, _<_}
+use Prim.Native.Nat.{ℕ, _+_, _≤_, _<_}
 use native.Mathlib.Omega.{arith}
 use mathlib.Core.Bool.{Bool, true, false, cond, _&&_}
 use mathlib.Core.Path.{_≡_, refl}

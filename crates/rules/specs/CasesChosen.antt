@@ -13,7 +13,6 @@ use Rattle.rules.specs.declared.state.Frame.{Frame}
 use Rattle.rules.specs.declared.state.Hold.{Hold}
 use Rattle.rules.specs.declared.state.Activity.{Activity}
 use Rattle.rules.specs.declared.state.State.{State}
-use Rattle.rules.specs.declared.answer.Answer.the-variants.{Refused}
 use Rattle.rules.specs.State.{noFrame, noHold}
 use Rattle.rules.specs.Effects.{withFrames}
 use Rattle.rules.specs.Steps.{base}
