@@ -8,7 +8,7 @@ use Rattle.program.specs.Same.{sameBool}
 use Rattle.rules.specs.declared.state.Fault.the-variants.{F1, F3, F8}
 use Rattle.rules.specs.declared.state.Status.the-variants.{Running, AtBarrier, Ended, Faulted}
 use Rattle.rules.specs.declared.state.Registration.the-variants.{Live, Quiesced}
-use Rattle.rules.specs.declared.state.Operator.the-variants.{Sum}
+use Rattle.rules.specs.declared.state.Operator.the-variants.{Sum, Maximum}
 use Rattle.rules.specs.declared.state.Frame.{Frame}
 use Rattle.rules.specs.declared.state.Hold.{Hold}
 use Rattle.rules.specs.declared.state.Activity.{Activity}
@@ -49,6 +49,14 @@ lending = 0x03 ∷ 0x02 ∷ 0x03 ∷ 0x02 ∷ 0x06 ∷ 0x0C ∷ 0x01 ∷ 0x00 �
 -- PUT 1, FINISH 1; body 1 CHOOSE 2; body 2 ASYNC 3 0; body 3 is a bare END.
 abbrev inFinish : List ℕ
 inFinish = 0x04 ∷ 0x0C ∷ 0x01 ∷ 0x00 ∷ 0x00 ∷ 0x00 ∷ 0x06 ∷ 0x01 ∷ 0x00 ∷ 0x11 ∷ 0x02 ∷ 0x00 ∷ 0x05 ∷ 0x03 ∷ 0x00 ∷ 0x00 ∷ 0x00 ∷ []
+
+-- PUT 8, STORE 2, CLOCK 3, CLOCK 6, RESUME 6, ACC 5 2, CHOOSE 1, PUT 0, CHOOSE 1; body 1 is a bare END.
+abbrev holder : List ℕ
+holder = 0x02 ∷ 0x0C ∷ 0x08 ∷ 0x00 ∷ 0x00 ∷ 0x00 ∷ 0x0E ∷ 0x02 ∷ 0x02 ∷ 0x03 ∷ 0x02 ∷ 0x06 ∷ 0x03 ∷ 0x06 ∷ 0x08 ∷ 0x05 ∷ 0x02 ∷ 0x11 ∷ 0x01 ∷ 0x0C ∷ 0x00 ∷ 0x00 ∷ 0x00 ∷ 0x00 ∷ 0x11 ∷ 0x01 ∷ 0x00 ∷ 0x00 ∷ []
+
+-- PUT 1, FINISH 1; body 1 CHOOSE 2; body 2 ASYNC 3 0; body 3 RESUME 4.
+abbrev faulty : List ℕ
+faulty = 0x04 ∷ 0x0C ∷ 0x01 ∷ 0x00 ∷ 0x00 ∷ 0x00 ∷ 0x06 ∷ 0x01 ∷ 0x00 ∷ 0x11 ∷ 0x02 ∷ 0x00 ∷ 0x05 ∷ 0x03 ∷ 0x00 ∷ 0x00 ∷ 0x03 ∷ 0x04 ∷ 0x00 ∷ []
 
 abbrev free : ℕ → List Hold
 free n = replicate n noHold
@@ -107,6 +115,26 @@ chosen =
       answers = replicate 9 running;
       after = written 9 0 [] (activity Running 0 0 (bottom 21 0 ∷ []) [] (0 ∷ 0 ∷ 0 ∷ 1 ∷ []) ∷ []) (holding 5 Sum 0 ∷ []);
     }
+    -- Clocks, names and cells stay as they are: where the body begins,
+    ∷ record {
+      table = holder;
+      order = replicate 7 0;
+      answers = replicate 7 running;
+      after =
+          written 7 2 (0 ∷ 0 ∷ 8 ∷ [])
+          (activity Running 0 8 (bottom 16 0 ∷ frameAt 0 1 0 0 ∷ []) (free 3 ++ (holdOn 0 0 Live ∷ free 2 ++ (holdOn 0 1 Quiesced ∷ []))) (0 ∷ 0 ∷ 0 ∷ 0 ∷ 0 ∷ 1 ∷ []) ∷ [])
+          (holding 0 Maximum 0 ∷ []);
+    }
+    -- at its END, and where it is skipped.
+    ∷ record {
+      table = holder;
+      order = replicate 10 0;
+      answers = replicate 10 running;
+      after =
+          written 10 2 (0 ∷ 0 ∷ 8 ∷ [])
+          (activity Running 0 0 (bottom 25 0 ∷ []) (free 3 ++ (holdOn 0 0 Live ∷ free 2 ++ (holdOn 0 1 Quiesced ∷ []))) (0 ∷ 0 ∷ 0 ∷ 0 ∷ 0 ∷ 1 ∷ []) ∷ [])
+          (holding 0 Maximum 0 ∷ []);
+    }
     -- In a REPEAT body: skipped in the first run, and run in the second.
     ∷ record {
       table = rounds;
@@ -154,9 +182,9 @@ chosen =
       answers = replicate 5 running ++ (waits ∷ ended ∷ running ∷ ended ∷ []);
       after = written 8 0 [] (activity Ended 0 1 [] [] [] ∷ activity Ended 0 1 [] [] [] ∷ []) [];
     }
-    -- The END of a CHOOSE body passes no fault on, that of the FINISH body below it does: body 3 is RESUME 4.
+    -- The END of a CHOOSE body passes no fault on, that of the FINISH body below it does.
     ∷ record {
-      table = 0x04 ∷ 0x0C ∷ 0x01 ∷ 0x00 ∷ 0x00 ∷ 0x00 ∷ 0x06 ∷ 0x01 ∷ 0x00 ∷ 0x11 ∷ 0x02 ∷ 0x00 ∷ 0x05 ∷ 0x03 ∷ 0x00 ∷ 0x00 ∷ 0x03 ∷ 0x04 ∷ 0x00 ∷ [];
+      table = faulty;
       order = replicate 4 0 ++ (1 ∷ 0 ∷ 0 ∷ []);
       answers = replicate 4 running ++ (faulted F1 ∷ running ∷ faulted F8 ∷ []);
       after = written 7 0 [] (activity (Faulted F8) 0 1 [] [] [] ∷ activity (Faulted F1) 0 1 [] [] [] ∷ []) [];
@@ -215,6 +243,13 @@ sparing =
     -- A body that runs spares nothing; nor does FINISH with hand 0, or REPEAT 0.
     ∷ record { table = 0x02 ∷ 0x0C ∷ 0x01 ∷ 0x00 ∷ 0x00 ∷ 0x00 ∷ 0x11 ∷ 0x01 ∷ 0x00 ∷ 0x00 ∷ []; order = replicate 4 0; spared = 0; ran = true }
     ∷ record { table = 0x02 ∷ 0x06 ∷ 0x01 ∷ 0x07 ∷ 0x00 ∷ 0x01 ∷ 0x00 ∷ 0x00 ∷ []; order = replicate 4 0; spared = 0; ran = true }
+    -- Each ran, though calls are answered with 16, or with faults; one in the other, with hand 256; two activities.
+    ∷ record { table = inFinish; order = replicate 6 0 ++ (1 ∷ 0 ∷ 0 ∷ []); spared = 0; ran = true }
+    ∷ record { table = faulty; order = replicate 4 0 ++ (1 ∷ 0 ∷ 0 ∷ []); spared = 0; ran = true }
+    ∷ record { table = 0x03 ∷ 0x0C ∷ 0x00 ∷ 0x01 ∷ 0x00 ∷ 0x00 ∷ 0x11 ∷ 0x01 ∷ 0x00 ∷ 0x11 ∷ 0x02 ∷ 0x00 ∷ 0x01 ∷ 0x00 ∷ []; order = replicate 8 0; spared = 0; ran = true }
+    ∷ record { table = 0x03 ∷ 0x0C ∷ 0x09 ∷ 0x00 ∷ 0x00 ∷ 0x00 ∷ 0x05 ∷ 0x01 ∷ 0x00 ∷ 0x11 ∷ 0x02 ∷ 0x00 ∷ 0x11 ∷ 0x02 ∷ 0x00 ∷ 0x00 ∷ []; order = replicate 5 0 ++ replicate 3 1; spared = 0; ran = true }
+    -- A skipped one counts in a run with a fault too: CHOOSE 1, DROP 3.
+    ∷ record { table = 0x02 ∷ 0x11 ∷ 0x01 ∷ 0x04 ∷ 0x03 ∷ 0x00 ∷ 0x00 ∷ []; order = replicate 2 0; spared = 1; ran = false }
     -- One of two rounds; one of two activities.
     ∷ record { table = rounds; order = replicate 9 0; spared = 1; ran = false }
     ∷ record { table = ownHand; order = replicate 4 0 ++ (1 ∷ 1 ∷ 1 ∷ 1 ∷ 1 ∷ 0 ∷ []); spared = 3; ran = false }
