@@ -7,7 +7,7 @@ use Rattle.program.specs.Bodies.{Body, Program}
 use Rattle.program.specs.declared.command.Command.{Command}
 
 -- What the commands of a body come to, where `of b` is what body b comes to: "FINISH and ASYNC 1 plus the work of b; REPEAT 1 plus n times that
--- of b; ATOM 1 together with its k commands".
+-- of b; ATOM 1 together with its k commands". Of CHOOSE: "Its work is 1 plus the work of b".
 unfoldable pub sumOver : (Command → ℕ) → (ℕ → ℕ) → Body → ℕ
 sumOver own of [] = 0
 sumOver own of (x ∷ xs) = own (x .command) + times (x .command) * of (named (x .command)) + sumOver own of xs

@@ -48,6 +48,7 @@ pub mod Quiescence
 pub mod Start
 pub mod Calls
 pub mod Demand3
+pub mod Unchosen
 pub mod Runs
 pub mod AwaitedCalls
 pub mod Opened

@@ -8,7 +8,7 @@ use Rattle.program.specs.Same.{sameBool}
 use Rattle.rules.specs.declared.state.Fault.the-variants.{F1, F3, F8}
 use Rattle.rules.specs.declared.state.Status.the-variants.{Running, AtBarrier, Ended, Faulted}
 use Rattle.rules.specs.declared.state.Registration.the-variants.{Live, Quiesced}
-use Rattle.rules.specs.declared.state.Operator.the-variants.{Sum, Maximum}
+use Rattle.rules.specs.declared.state.Operator.the-variants.{Sum, Minimum, Maximum}
 use Rattle.rules.specs.declared.state.Frame.{Frame}
 use Rattle.rules.specs.declared.state.Hold.{Hold}
 use Rattle.rules.specs.declared.state.Activity.{Activity}
@@ -60,6 +60,20 @@ faulty = 0x04 ∷ 0x0C ∷ 0x01 ∷ 0x00 ∷ 0x00 ∷ 0x00 ∷ 0x06 ∷ 0x01 ∷
 
 abbrev free : ℕ → List Hold
 free n = replicate n noHold
+
+-- CLOCK 3, CLOCK 6, RESUME 6, ACC 2 1, ASYNC 3 8, FINISH 1; body 1 ASYNC 3 0, CHOOSE 2; body 3 CHOOSE 4; bodies 2 and 4 are bare ENDs. With hand 0, and with PUT 1 before it.
+abbrev crowdedFinish : List ℕ
+crowdedFinish = 0x05 ∷ 0x02 ∷ 0x03 ∷ 0x02 ∷ 0x06 ∷ 0x03 ∷ 0x06 ∷ 0x08 ∷ 0x02 ∷ 0x01 ∷ 0x05 ∷ 0x03 ∷ 0x08 ∷ 0x06 ∷ 0x01 ∷ 0x00 ∷ 0x05 ∷ 0x03 ∷ 0x00 ∷ 0x11 ∷ 0x02 ∷ 0x00 ∷ 0x00 ∷ 0x11 ∷ 0x04 ∷ 0x00 ∷ 0x00 ∷ []
+
+abbrev crowdedFinishOne : List ℕ
+crowdedFinishOne = 0x05 ∷ 0x0C ∷ 0x01 ∷ 0x00 ∷ 0x00 ∷ 0x00 ∷ 0x02 ∷ 0x03 ∷ 0x02 ∷ 0x06 ∷ 0x03 ∷ 0x06 ∷ 0x08 ∷ 0x02 ∷ 0x01 ∷ 0x05 ∷ 0x03 ∷ 0x08 ∷ 0x06 ∷ 0x01 ∷ 0x00 ∷ 0x05 ∷ 0x03 ∷ 0x00 ∷ 0x11 ∷ 0x02 ∷ 0x00 ∷ 0x00 ∷ 0x11 ∷ 0x04 ∷ 0x00 ∷ 0x00 ∷ []
+
+-- Main in its body 1, and a child at a place of body 3.
+abbrev owner : ℕ → List Frame → Activity
+owner hand frames = activity Running 0 hand frames (free 3 ++ (holdOn 0 0 Live ∷ free 2 ++ (holdOn 0 1 Quiesced ∷ []))) (0 ∷ 0 ∷ 1 ∷ [])
+
+abbrev inside : ℕ → ℕ → List Hold → Activity
+inside hand offset holds = activity Running 0 hand (bottom offset 3 ∷ []) holds (0 ∷ 0 ∷ 1 ∷ [])
 
 -- RUNS
 
@@ -182,6 +196,22 @@ chosen =
       answers = replicate 5 running ++ (waits ∷ ended ∷ running ∷ ended ∷ []);
       after = written 8 0 [] (activity Ended 0 1 [] [] [] ∷ activity Ended 0 1 [] [] [] ∷ []) [];
     }
+    -- With unended children, one inside the finish and one from before it: skipped in the FINISH body, whose first number stays, and by a child;
+    ∷ record {
+      table = crowdedFinish;
+      order = replicate 8 0 ++ (2 ∷ []);
+      answers = replicate 9 running;
+      after =
+          written 9 2 [] (owner 0 (bottom 12 0 ∷ frameAt 5 1 0 2 ∷ []) ∷ inside 0 0 (free 3 ++ (holdOn 0 0 Live ∷ [])) ∷ inside 0 2 [] ∷ []) (holding 4294967295 Minimum 0 ∷ []);
+    }
+    -- run there.
+    ∷ record {
+      table = crowdedFinishOne;
+      order = replicate 9 0;
+      answers = replicate 9 running;
+      after =
+          written 9 2 [] (owner 1 (bottom 17 0 ∷ frameAt 3 1 0 2 ∷ frameAt 0 2 0 0 ∷ []) ∷ inside 1 0 (free 3 ++ (holdOn 0 0 Live ∷ [])) ∷ inside 1 0 [] ∷ []) (holding 4294967295 Minimum 0 ∷ []);
+    }
     -- The END of a CHOOSE body passes no fault on, that of the FINISH body below it does.
     ∷ record {
       table = faulty;
@@ -250,6 +280,8 @@ sparing =
     ∷ record { table = faulty; order = replicate 4 0 ++ (1 ∷ 0 ∷ 0 ∷ []); spared = 0; ran = true }
     ∷ record { table = 0x03 ∷ 0x0C ∷ 0x00 ∷ 0x01 ∷ 0x00 ∷ 0x00 ∷ 0x11 ∷ 0x01 ∷ 0x00 ∷ 0x11 ∷ 0x02 ∷ 0x00 ∷ 0x01 ∷ 0x00 ∷ []; order = replicate 8 0; spared = 0; ran = true }
     ∷ record { table = 0x03 ∷ 0x0C ∷ 0x09 ∷ 0x00 ∷ 0x00 ∷ 0x00 ∷ 0x05 ∷ 0x01 ∷ 0x00 ∷ 0x11 ∷ 0x02 ∷ 0x00 ∷ 0x11 ∷ 0x02 ∷ 0x00 ∷ 0x00 ∷ []; order = replicate 5 0 ++ replicate 3 1; spared = 0; ran = true }
+    -- By the own hand: a child's is 9, main's is 0.
+    ∷ record { table = 0x03 ∷ 0x0C ∷ 0x09 ∷ 0x00 ∷ 0x00 ∷ 0x00 ∷ 0x05 ∷ 0x01 ∷ 0x00 ∷ 0x0C ∷ 0x00 ∷ 0x00 ∷ 0x00 ∷ 0x00 ∷ 0x00 ∷ 0x11 ∷ 0x02 ∷ 0x00 ∷ 0x00 ∷ []; order = 0 ∷ 0 ∷ 0 ∷ 1 ∷ 1 ∷ 1 ∷ 0 ∷ []; spared = 0; ran = true }
     -- A skipped one counts in a run with a fault too: CHOOSE 1, DROP 3.
     ∷ record { table = 0x02 ∷ 0x11 ∷ 0x01 ∷ 0x04 ∷ 0x03 ∷ 0x00 ∷ 0x00 ∷ []; order = replicate 2 0; spared = 1; ran = false }
     -- One of two rounds; the second of three; one of two activities.
@@ -307,10 +339,15 @@ choosing =
     ∷ accepted alone (written 0 0 [] (activity Running 0 5 (bottom 0 0 ∷ []) [] [] ∷ alive ∷ []) []) 0 3 running
     (written 1 0 [] (activity Running 0 5 (bottom 0 0 ∷ frameAt 0 1 0 0 ∷ []) [] [] ∷ alive ∷ []) [])
     ∷ accepted alone (written 0 0 [] (activity Running 0 0 (bottom 0 0 ∷ []) [] [] ∷ alive ∷ []) []) 0 3 running (left 1 alive)
-    -- 17 at a skipped CHOOSE.
+    -- 17 where no step is left, with hand 0 and with another.
     ∷ refused alone (written 3 0 [] (activity Running 0 0 (bottom 0 0 ∷ []) [] [] ∷ []) []) 0 17 1
+    ∷ refused alone (written 3 0 [] (activity Running 0 5 (bottom 0 0 ∷ []) [] [] ∷ []) []) 0 17 1
     ∷ []
 
 -- Nobody is waited for.
 unfoldable pub unawaited : List Asked
-unawaited = asks alone (leaving 1 alive) 0 0 0 ∷ asks alone (written 0 0 [] (activity Running 0 0 (bottom 0 0 ∷ []) [] [] ∷ alive ∷ []) []) 0 0 0 ∷ []
+unawaited =
+    asks alone (leaving 1 alive) 0 0 0
+    ∷ asks alone (written 0 0 [] (activity Running 0 0 (bottom 0 0 ∷ []) [] [] ∷ alive ∷ []) []) 0 0 0
+    ∷ asks alone (written 0 0 [] (activity Running 0 5 (bottom 0 0 ∷ []) [] [] ∷ alive ∷ []) []) 0 0 0
+    ∷ []
