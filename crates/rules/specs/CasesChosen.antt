@@ -271,26 +271,26 @@ sparing =
     ∷ record { table = meeting; order = 5 ∷ []; spared = 0; ran = true }
     ∷ record { table = meeting; order = 5 ∷ 0 ∷ 0 ∷ 0 ∷ []; spared = 3; ran = false }
     -- A body that runs spares nothing; nor does FINISH with hand 0, or REPEAT 0.
-    ∷ record { table = 0x02 ∷ 0x0C ∷ 0x01 ∷ 0x00 ∷ 0x00 ∷ 0x00 ∷ 0x11 ∷ 0x01 ∷ 0x00 ∷ 0x00 ∷ []; order = replicate 4 0; spared = 0; ran = true }
-    ∷ record { table = 0x02 ∷ 0x06 ∷ 0x01 ∷ 0x07 ∷ 0x00 ∷ 0x01 ∷ 0x00 ∷ 0x00 ∷ []; order = replicate 4 0; spared = 0; ran = true }
-    -- Nor does any other command with hand 0: CLOCK 0, ASYNC 1 0, NEXT, ATOM 1 of FETCH 0, ACC 0 0, OFFER 0, RESUME 0, DROP 0, READ 0, RESET 0, PUT 0, FETCH 1, STORE 1, ADD 1.
-    ∷ record { table = 0x02 ∷ 0x02 ∷ 0x00 ∷ 0x05 ∷ 0x01 ∷ 0x00 ∷ 0x01 ∷ 0x10 ∷ 0x01 ∷ 0x0D ∷ 0x00 ∷ 0x08 ∷ 0x00 ∷ 0x00 ∷ 0x09 ∷ 0x00 ∷ 0x03 ∷ 0x00 ∷ 0x04 ∷ 0x00 ∷ 0x0A ∷ 0x00 ∷ 0x0B ∷ 0x00 ∷ 0x0C ∷ 0x00 ∷ 0x00 ∷ 0x00 ∷ 0x00 ∷ 0x0D ∷ 0x01 ∷ 0x0E ∷ 0x01 ∷ 0x0F ∷ 0x01 ∷ 0x00 ∷ 0x00 ∷ []; order = replicate 9 0 ++ (1 ∷ replicate 7 0); spared = 0; ran = true }
+    ∷ record { table = 0x02 ∷ 0x0C ∷ 0x01 ∷ 0x00 ∷ 0x00 ∷ 0x00 ∷ 0x11 ∷ 0x01 ∷ 0x00 ∷ 0x00 ∷ []; order = replicate 2 0; spared = 0; ran = true }
+    ∷ record { table = 0x02 ∷ 0x06 ∷ 0x01 ∷ 0x07 ∷ 0x00 ∷ 0x01 ∷ 0x00 ∷ 0x00 ∷ []; order = replicate 3 0; spared = 0; ran = true }
+    -- Nor do other commands with hand 0: CLOCK 0, ASYNC 1 0, NEXT, ATOM 1 of FETCH 0.
+    ∷ record { table = 0x02 ∷ 0x02 ∷ 0x00 ∷ 0x05 ∷ 0x01 ∷ 0x00 ∷ 0x01 ∷ 0x10 ∷ 0x01 ∷ 0x0D ∷ 0x00 ∷ 0x00 ∷ 0x00 ∷ []; order = replicate 5 0; spared = 0; ran = true }
     -- Each ran, though calls are answered with 16, or with faults; one in the other, with hand 256; two activities.
-    ∷ record { table = inFinish; order = replicate 6 0 ++ (1 ∷ 0 ∷ 0 ∷ []); spared = 0; ran = true }
-    ∷ record { table = faulty; order = replicate 4 0 ++ (1 ∷ 0 ∷ 0 ∷ []); spared = 0; ran = true }
-    ∷ record { table = 0x03 ∷ 0x0C ∷ 0x00 ∷ 0x01 ∷ 0x00 ∷ 0x00 ∷ 0x11 ∷ 0x01 ∷ 0x00 ∷ 0x11 ∷ 0x02 ∷ 0x00 ∷ 0x01 ∷ 0x00 ∷ []; order = replicate 8 0; spared = 0; ran = true }
-    ∷ record { table = 0x03 ∷ 0x0C ∷ 0x09 ∷ 0x00 ∷ 0x00 ∷ 0x00 ∷ 0x05 ∷ 0x01 ∷ 0x00 ∷ 0x11 ∷ 0x02 ∷ 0x00 ∷ 0x11 ∷ 0x02 ∷ 0x00 ∷ 0x00 ∷ []; order = replicate 5 0 ++ replicate 3 1; spared = 0; ran = true }
+    ∷ record { table = inFinish; order = replicate 6 0; spared = 0; ran = true }
+    ∷ record { table = faulty; order = replicate 4 0 ++ (1 ∷ []); spared = 0; ran = true }
+    ∷ record { table = 0x03 ∷ 0x0C ∷ 0x00 ∷ 0x01 ∷ 0x00 ∷ 0x00 ∷ 0x11 ∷ 0x01 ∷ 0x00 ∷ 0x11 ∷ 0x02 ∷ 0x00 ∷ 0x01 ∷ 0x00 ∷ []; order = replicate 3 0; spared = 0; ran = true }
+    ∷ record { table = 0x03 ∷ 0x0C ∷ 0x09 ∷ 0x00 ∷ 0x00 ∷ 0x00 ∷ 0x05 ∷ 0x01 ∷ 0x00 ∷ 0x11 ∷ 0x02 ∷ 0x00 ∷ 0x11 ∷ 0x02 ∷ 0x00 ∷ 0x00 ∷ []; order = 0 ∷ 0 ∷ 0 ∷ 1 ∷ []; spared = 0; ran = true }
     -- By the own hand: a child's is 9, main's is 0.
-    ∷ record { table = 0x03 ∷ 0x0C ∷ 0x09 ∷ 0x00 ∷ 0x00 ∷ 0x00 ∷ 0x05 ∷ 0x01 ∷ 0x00 ∷ 0x0C ∷ 0x00 ∷ 0x00 ∷ 0x00 ∷ 0x00 ∷ 0x00 ∷ 0x11 ∷ 0x02 ∷ 0x00 ∷ 0x00 ∷ []; order = 0 ∷ 0 ∷ 0 ∷ 1 ∷ 1 ∷ 1 ∷ 0 ∷ []; spared = 0; ran = true }
+    ∷ record { table = 0x03 ∷ 0x0C ∷ 0x09 ∷ 0x00 ∷ 0x00 ∷ 0x00 ∷ 0x05 ∷ 0x01 ∷ 0x00 ∷ 0x0C ∷ 0x00 ∷ 0x00 ∷ 0x00 ∷ 0x00 ∷ 0x00 ∷ 0x11 ∷ 0x02 ∷ 0x00 ∷ 0x00 ∷ []; order = 0 ∷ 0 ∷ 0 ∷ 1 ∷ []; spared = 0; ran = true }
     -- A skipped one counts in a run with a fault too: CHOOSE 1, DROP 3.
     ∷ record { table = 0x02 ∷ 0x11 ∷ 0x01 ∷ 0x04 ∷ 0x03 ∷ 0x00 ∷ 0x00 ∷ []; order = replicate 2 0; spared = 1; ran = false }
     -- One of two rounds; the second of three; one of two activities.
-    ∷ record { table = rounds; order = replicate 9 0; spared = 1; ran = false }
-    ∷ record { table = within; order = replicate 9 0; spared = 2; ran = false }
-    ∷ record { table = ownHand; order = replicate 4 0 ++ (1 ∷ 1 ∷ 1 ∷ 1 ∷ 1 ∷ 0 ∷ []); spared = 3; ran = false }
+    ∷ record { table = rounds; order = replicate 5 0; spared = 1; ran = false }
+    ∷ record { table = within; order = replicate 6 0; spared = 2; ran = false }
+    ∷ record { table = ownHand; order = replicate 4 0 ++ (1 ∷ []); spared = 3; ran = false }
     -- With the body what it would have run: CHOOSE 1; body 1 CHOOSE 2; body 2 NEXT. And twice: REPEAT 2 1; body 1 CHOOSE 2; body 2 NEXT.
     ∷ record { table = 0x03 ∷ 0x11 ∷ 0x01 ∷ 0x00 ∷ 0x11 ∷ 0x02 ∷ 0x00 ∷ 0x01 ∷ 0x00 ∷ []; order = replicate 2 0; spared = 5; ran = false }
-    ∷ record { table = 0x03 ∷ 0x07 ∷ 0x02 ∷ 0x01 ∷ 0x00 ∷ 0x11 ∷ 0x02 ∷ 0x00 ∷ 0x01 ∷ 0x00 ∷ []; order = replicate 6 0; spared = 6; ran = false }
+    ∷ record { table = 0x03 ∷ 0x07 ∷ 0x02 ∷ 0x01 ∷ 0x00 ∷ 0x11 ∷ 0x02 ∷ 0x00 ∷ 0x01 ∷ 0x00 ∷ []; order = replicate 4 0; spared = 6; ran = false }
     ∷ []
 
 -- STATES
