@@ -9,12 +9,13 @@ use Rattle.program.specs.Command.{opcode}
 use Rattle.program.specs.Bodies.{Body, Program, programOf, from, headOf}
 use Rattle.program.specs.Count.{workOf}
 use Rattle.program.specs.Table.{numberOf}
+use Rattle.program.proofs.Basic.{or-false}
 use Rattle.rules.specs.declared.state.State.{State}
 use Rattle.rules.specs.State.{act, top}
 use Rattle.rules.specs.Tree.{rest, here}
 use Rattle.rules.specs.Steps.{Limits, at, start, step}
 use Rattle.rules.specs.Runs.{run, answers, isAccepted, taken, someFault, finished, skips, allRanFrom, allRan}
-use Rattle.rules.proofs.Tests.{true-false, and-intro}
+use Rattle.rules.proofs.Tests.{and-intro}
 use Rattle.rules.proofs.Demand3.{demand3}
 
 -- Whether a body, and a program, has a CHOOSE.
@@ -26,22 +27,18 @@ unfoldable pub chooses : Program → Bool
 chooses [] = false
 chooses (b ∷ p) = choosesIn b || chooses p
 
-neither : (x y : Bool) → x || y ≡ false → (x ≡ false) × (y ≡ false)
-neither true y e = absurd (true-false true refl e)
-neither false y e = (refl, e)
-
 -- Then none of its bodies has one, and nobody stands on one.
 body-none : (p : Program) → chooses p ≡ false → (b : ℕ) → choosesIn (getD p b []) ≡ false
 unfolding choosesIn chooses
 body-none [] e b = refl
-body-none (x ∷ p) e zero = neither (choosesIn x) (chooses p) e .0
-body-none (x ∷ p) e (suc b) = body-none p (neither (choosesIn x) (chooses p) e .1) b
+body-none (x ∷ p) e zero = or-false (choosesIn x) (chooses p) e .0
+body-none (x ∷ p) e (suc b) = body-none p (or-false (choosesIn x) (chooses p) e .1) b
 
 head-none : (b : Body) (offset : ℕ) → choosesIn b ≡ false → eqb (opcode (headOf (from b offset) .command)) 0x11 ≡ false
 unfolding choosesIn from
 head-none [] offset e = refl
 head-none (x ∷ xs) offset e =
-    let q = neither (eqb (opcode (x .command)) 0x11) (choosesIn xs) e in
+    let q = or-false (eqb (opcode (x .command)) 0x11) (choosesIn xs) e in
     go (eqb (x .offset) offset) (q .0) (head-none xs offset (q .1))
   where
     go : (y : Bool) → eqb (opcode (x .command)) 0x11 ≡ false → eqb (opcode (headOf (from xs offset) .command)) 0x11 ≡ false
