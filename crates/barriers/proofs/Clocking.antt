@@ -6,68 +6,68 @@ use mathlib.Core.List.{List}
 use mathlib.Core.Bool.{Bool, true, false}
 use lib.Dec.{leb}
 use borrow.Author.Tests.{le-leb, lt-leb}
-use Rattle.program.specs.Command.{isEnd}
+use Rattle.program.specs.Command.{is_end}
 use Rattle.program.specs.Bodies.{Program}
 use Rattle.program.specs.declared.command.Command.TheVariants.{Clock}
-use Rattle.program.proofs.ShapeRows.{span-is}
+use Rattle.program.proofs.ShapeRows.{span_is}
 use Rattle.rules.specs.declared.state.Registration.TheVariants.{Live}
 use Rattle.rules.specs.declared.state.Hold.{Hold}
 use Rattle.rules.specs.declared.state.Activity.{Activity}
 use Rattle.rules.specs.declared.state.State.{State}
 use Rattle.rules.specs.State.{act, hold}
 use Rattle.rules.specs.Clocks.{is_held}
-use Rattle.rules.specs.Faults.{faultFor}
-use Rattle.rules.specs.Effects.{past, effect_of, applied, withStores}
+use Rattle.rules.specs.Faults.{fault_for}
+use Rattle.rules.specs.Effects.{past, effect_of, applied, with_stores}
 use Rattle.rules.specs.Steps.{base, fault, effect, exceeds}
-use Rattle.moves.specs.Exceeding.{overfull, exceedsAt}
-use Rattle.fields.specs.Lent.{Lent, Reads, Writes, ReadsAct, WritesAct, withAct, withHold, withSteps, withClocks}
+use Rattle.moves.specs.Exceeding.{overfull, exceeds_at}
+use Rattle.fields.specs.Lent.{Lent, Reads, Writes, ReadsAct, WritesAct, with_act, with_hold, with_steps, with_clocks}
 use Rattle.moves.specs.Moves.{Standing, Turned, GoesOn}
-use Rattle.moves.proofs.Withs.{act-with, with-with}
-use Rattle.moves.proofs.Standings.{few, fault-here, asks, plain, calm, went, done}
-use Rattle.barriers.proofs.Reholds.{holds-here}
+use Rattle.moves.proofs.Withs.{act_with, with_with}
+use Rattle.moves.proofs.Standings.{few, fault_here, asks, plain, calm, went, done}
+use Rattle.barriers.proofs.Reholds.{holds_here}
 
 -- The activity anew, and then the count of clocks.
-act-clocks : (s : State) (i n : ℕ) → act (withClocks s n) i ≡ act s i
-unfolding withClocks
-act-clocks s i n = refl
+act_clocks : (s : State) (i n : ℕ) → act (with_clocks s n) i ≡ act s i
+unfolding with_clocks
+act_clocks s i n = refl
 
-with-clocks : (s : State) (i n : ℕ) (x y : Activity) → withAct (withClocks (withAct s i x) n) i y ≡ withClocks (withAct s i y) n
-unfolding withClocks withAct
-with-clocks s i n x y = ap (λ (t : State). withClocks t n) (with-with s i x y)
+with_clocks_lem : (s : State) (i n : ℕ) (x y : Activity) → with_act (with_clocks (with_act s i x) n) i y ≡ with_clocks (with_act s i y) n
+unfolding with_clocks with_act
+with_clocks_lem s i n x y = ap (λ (t : State). with_clocks t n) (with_with s i x y)
 
-steps-clocks : (s : State) (i n : ℕ) (x : Activity) → (withClocks (withAct s i x) n).steps ≡ s.steps
-unfolding withClocks withAct
-steps-clocks s i n x = refl
+steps_clocks : (s : State) (i n : ℕ) (x : Activity) → (with_clocks (with_act s i x) n).steps ≡ s.steps
+unfolding with_clocks with_act
+steps_clocks s i n x = refl
 
 module _ {b : List ℕ} {p : Program} {s : State} {i work k : ℕ} {h : Hold} {q : Bool} (l : Lent b s) (w : Standing p s i work (Clock k)) (under : ReadsAct (λ (a : Activity). hold a k) b i h)
     (e : q ≡ is_held h.registration) where
-  pub held-fault : q ≡ true → fault p s i ≡ 4
-  unfolding faultFor
-  held-fault n = fault-here w refl ∙ rw (sym (holds-here l (few w) under e) ∙ n)
+  pub held_fault : q ≡ true → fault p s i ≡ 4
+  unfolding fault_for
+  held_fault n = fault_here w refl ∙ rw (sym (holds_here l (few w) under e) ∙ n)
 
   clear : q ≡ false → fault p s i ≡ 0
-  unfolding faultFor
-  clear n = fault-here w refl ∙ rw (sym (holds-here l (few w) under e) ∙ n)
+  unfolding fault_for
+  clear n = fault_here w refl ∙ rw (sym (holds_here l (few w) under e) ∙ n)
 
   -- number 17 for a 17th
   pub full : {m : ℕ} → q ≡ false → false ≡ leb work s.steps → Reads (λ (t : State). t.clocks) b m → 16 ≤ m → true ≡ exceeds base p s (effect p s i)
-  unfolding exceedsAt overfull
+  unfolding exceeds_at overfull
   full {m} n left f u = asks w (sym (clear n)) (rw (sym left, ← f.reads s l, le-leb 16 m u))
 
   -- the clock is made
   module _ {b₁ b₂ b₃ : List ℕ} {m r : ℕ} (left : false ≡ leb work s.steps) (f : Reads (λ (t : State). t.clocks) b m)
-      (put : WritesAct (λ (a : Activity). withHold a k (record { phase = 0; clock = m; registration = Live })) b b₁ i) (count : Writes (λ (t : State). withClocks t (m + 1)) b₁ b₂)
+      (put : WritesAct (λ (a : Activity). with_hold a k (record { phase = 0; clock = m; registration = Live })) b b₁ i) (count : Writes (λ (t : State). with_clocks t (m + 1)) b₁ b₂)
       (g : GoesOn b₂ b₃ i 2 r) where
     new : Activity
-    new = withHold (act s i) k (record { phase = 0; clock = m; registration = Live })
+    new = with_hold (act s i) k (record { phase = 0; clock = m; registration = Live })
 
-    made : Lent b₃ (withSteps (withClocks (withAct s i (past p new)) (m + 1)) (s.steps + 1))
-    unfolding new isEnd
+    made : Lent b₃ (with_steps (with_clocks (with_act s i (past p new)) (m + 1)) (s.steps + 1))
+    unfolding new is_end
     made =
-        let z : act (withClocks (withAct s i new) (m + 1)) i ≡ new = act-clocks (withAct s i new) i (m + 1) ∙ act-with new l (few w) in
-        let y = went w refl (span-is (Clock k)) left (count.writes _ (put.writes s l (few w))) (ap (λ (a : Activity). a.frames) z) (ap (λ (a : Activity). a.depth) z) (steps-clocks s i (m + 1) new) g in
-        rw (z, with-clocks s i (m + 1) new (past p new)) at y
+        let z : act (with_clocks (with_act s i new) (m + 1)) i ≡ new = act_clocks (with_act s i new) i (m + 1) ∙ act_with new l (few w) in
+        let y = went w refl (span_is (Clock k)) left (count.writes _ (put.writes s l (few w))) (ap (λ (a : Activity). a.frames) z) (ap (λ (a : Activity). a.depth) z) (steps_clocks s i (m + 1) new) g in
+        rw (z, with_clocks_lem s i (m + 1) new (past p new)) at y
 
     pub clocked : q ≡ false → m < 16 → Turned p s i b₃ r
-    unfolding new effect_of overfull past applied withStores withAct withSteps withClocks
+    unfolding new effect_of overfull past applied with_stores with_act with_steps with_clocks
     clocked n u = let o = f.reads s l in done w (clear n) (plain w left (rw (← o, lt-leb 16 m u)) (λ d. omega arith)) (rw o at made) (g.number ∙ sym (calm w))

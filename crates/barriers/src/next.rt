@@ -3,7 +3,7 @@ ghost use Rattle.std.specs.Prelude.{◌≡◌, ◌≤◌};
 ghost use Rattle.program.specs.declared.command.Command.TheVariants.{Next};
 ghost use Rattle.rules.specs.declared.state.Activity.{Activity};
 ghost use Rattle.rules.specs.Clocks.{quiesce, pass};
-ghost use Rattle.moves.specs.Exceeding.{isLast, someLast};
+ghost use Rattle.moves.specs.Exceeding.{is_last, some_last};
 ghost use Rattle.fields.specs.Lent.{ReadsAct};
 ghost use Rattle.moves.specs.Moves.{Turns};
 ghost use Rattle.barriers.specs.Mapped.{Maps, Any, Passable};
@@ -17,7 +17,7 @@ use rules::state::{Hold, Status};
 
 // Whether a held clock is in the last phase.
 fn is_last(h: Hold) -> bool
-    ensures { result ≡ isLast h }
+    ensures { result ≡ is_last h }
 {
     let registration = h.registration;
     if is_held(registration) {
@@ -28,7 +28,7 @@ fn is_last(h: Hold) -> bool
 
 // Whether one of the eight is.
 fn some_last(state: &[u8], i: usize) -> bool
-    ensures { ReadsAct (λ (a : Activity). someLast a.holds) state.now i result }
+    ensures { ReadsAct (λ (a : Activity). some_last a.holds) state.now i result }
 {
     let mut k: usize = 0;
     while k < 8 {

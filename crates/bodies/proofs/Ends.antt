@@ -8,59 +8,59 @@ use mathlib.Core.Bool.{true, false, cond}
 use lib.Seq.{get_or-set_other}
 use lib.Dec.{leb, eqb}
 use borrow.Author.Tests.{le-leb, lt-leb, lt-ltb, le-ltb, ne_eqb}
-use Rattle.program.specs.Command.{isEnd, width, held}
+use Rattle.program.specs.Command.{is_end, width, held}
 use Rattle.program.specs.Bodies.{Program, program_of}
 use Rattle.program.specs.Scan.{scan}
 use Rattle.program.specs.declared.command.Command.{Command}
 use Rattle.program.specs.declared.command.Command.TheVariants.{End, Finish, Repeat, Choose}
-use Rattle.program.proofs.ShapeRows.{span-is}
+use Rattle.program.proofs.ShapeRows.{span_is}
 use Rattle.rules.specs.declared.state.Status.TheVariants.{Ended}
 use Rattle.rules.specs.declared.state.Frame.{Frame}
 use Rattle.rules.specs.declared.state.Activity.{Activity}
 use Rattle.rules.specs.declared.state.State.{State}
-use Rattle.rules.specs.State.{noFrame, act, frame, top}
-use Rattle.rules.specs.Tree.{here, nextOffset}
+use Rattle.rules.specs.State.{no_frame, act, frame, top}
+use Rattle.rules.specs.Tree.{here, next_offset}
 use Rattle.rules.specs.WellFormed.{is_placed}
-use Rattle.rules.specs.Faults.{faultFor, spoilt}
+use Rattle.rules.specs.Faults.{fault_for, spoilt}
 use Rattle.rules.specs.Steps.{fault}
 use Rattle.rules.specs.Effects.{alone, stopped, with_top, past, again, popped, end_of, effect_of}
-use Rattle.rules.proofs.WellFormedStack.{Ran, byFinish, byRepeat, byChoose, ran-going, Stack}
+use Rattle.rules.proofs.WellFormedStack.{Ran, by_finish, by_repeat, by_choose, ran_going, Stack}
 use Rattle.rules.proofs.WellFormedFacts.{facts}
 use Rattle.moves.specs.Exceeding.{overfull}
-use Rattle.places.proofs.Places.{next-is, next_small}
-use Rattle.fields.specs.Lent.{Lent, ReadsAct, WritesAct, withAct, withSteps, withFrame, withDepth, onward}
+use Rattle.places.proofs.Places.{next_is, next_small}
+use Rattle.fields.specs.Lent.{Lent, ReadsAct, WritesAct, with_act, with_steps, with_frame, with_depth, onward}
 use Rattle.moves.specs.Moves.{Standing, Turned, Counts, GoesOn}
 use Rattle.bodies.specs.Pops.{lower, Pops, rerun, Reruns}
-use Rattle.moves.proofs.Withs.{act-with, with-with, steps-with, then}
-use Rattle.moves.proofs.Standings.{spawned, few, fault-at, plain, calm, steps-room, shallow, done-alone}
+use Rattle.moves.proofs.Withs.{act_with, with_with, steps_with, then}
+use Rattle.moves.proofs.Standings.{spawned, few, fault_at, plain, calm, steps_room, shallow, done_alone}
 
-pub pop-done : {b b₁ b₂ b₃ : List ℕ} {i d size r : ℕ} {f : Frame} → f ≡ noFrame → (d - 1 < 16 → WritesAct (λ (a : Activity). withFrame a (d - 1) f) b b₁ i)
-    → WritesAct (λ (a : Activity). withDepth a (d - 1)) b₁ b₂ i → GoesOn b₂ b₃ i size r → Pops b b₃ i d size r
-pop-done {i = i} {d = d} q f g k =
+pub pop_done : {b b₁ b₂ b₃ : List ℕ} {i d size r : ℕ} {f : Frame} → f ≡ no_frame → (d - 1 < 16 → WritesAct (λ (a : Activity). with_frame a (d - 1) f) b b₁ i)
+    → WritesAct (λ (a : Activity). with_depth a (d - 1)) b₁ b₂ i → GoesOn b₂ b₃ i size r → Pops b b₃ i d size r
+pop_done {i = i} {d = d} q f g k =
     record {
       number = k.number;
       pops =
           λ s l j room e some few fits.
           let x = lower (act s i) in
-          let n : act (withAct s i x) i ≡ x = act-with x l j in
-          let m : Lent _ (withAct s i x) = rw (q, e) at ((then (f (omega arith)) g).writes s l j) in
-          let o = k.goes _ m j (rw (steps-with s i x) room) (rw n (omega arith)) (rw n (omega arith)) (rw n fits) in
-          rw (n, with-with, steps-with s i x) at o;
+          let n : act (with_act s i x) i ≡ x = act_with x l j in
+          let m : Lent _ (with_act s i x) = rw (q, e) at ((then (f (omega arith)) g).writes s l j) in
+          let o = k.goes _ m j (rw (steps_with s i x) room) (rw n (omega arith)) (rw n (omega arith)) (rw n fits) in
+          rw (n, with_with, steps_with s i x) at o;
     }
 
-pub again-done : {b b₁ b₂ : List ℕ} {i at r : ℕ} {f : Frame} → (at < 16 → WritesAct (λ (a : Activity). withFrame a at (rerun f)) b b₁ i) → Counts b₁ b₂ r → Reruns f b b₂ i at r
-unfolding withAct
-again-done put g = record { number = g.number; reruns = λ s l j h room. g.counts _ ((put h).writes s l j) room }
+pub again_done : {b b₁ b₂ : List ℕ} {i at r : ℕ} {f : Frame} → (at < 16 → WritesAct (λ (a : Activity). with_frame a at (rerun f)) b b₁ i) → Counts b₁ b₂ r → Reruns f b b₂ i at r
+unfolding with_act
+again_done put g = record { number = g.number; reruns = λ s l j h room. g.counts _ ((put h).writes s l j) room }
 
 -- the bytes of what runs a body
 size_of : {made : ℕ} {o : Command} {f : Frame} → Ran made o f → width o + 2 * held o ≡ cond (eqb f.runs 0) 2 3
-size_of (byFinish b e p q r) = rw (e, q) (span-is (Finish b))
-size_of {f = f} (byRepeat n b e p q r u) = rw (e, ne_eqb f.runs 0 (λ z. omega arith)) (span-is (Repeat n b))
-size_of (byChoose b e p q r) = rw (e, q) (span-is (Choose b))
+size_of (by_finish b e p q r) = rw (e, q) (span_is (Finish b))
+size_of {f = f} (by_repeat n b e p q r u) = rw (e, ne_eqb f.runs 0 (λ z. omega arith)) (span_is (Repeat n b))
+size_of (by_choose b e p q r) = rw (e, q) (span_is (Choose b))
 
 -- A fault is passed on.
-pub passed_on : {p : Program} {s : State} {i work : ℕ} → Standing p s i work End → spoilt p s i (act s i) End ≡ true → fault p s i ≡ 8
-passed_on w e = fault-at w ∙ rw e
+pub passed_on_lem : {p : Program} {s : State} {i work : ℕ} → Standing p s i work End → spoilt p s i (act s i) End ≡ true → fault p s i ≡ 8
+passed_on_lem w e = fault_at w ∙ rw e
 
 module _ (t : List ℕ) {b : List ℕ} {s : State} {i work d : ℕ} (k : scan t ≡ 0) (l : Lent b s) (w : Standing (program_of t) s i work End) (left : false ≡ leb work s.steps)
     (deep : ReadsAct (λ (a : Activity). a.depth) b i d) (none : spoilt (program_of t) s i (act s i) End ≡ false) where
@@ -72,22 +72,22 @@ module _ (t : List ℕ) {b : List ℕ} {s : State} {i work d : ℕ} (k : scan t 
 
   -- no fault is met
   clear : fault (program_of t) s i ≡ 0
-  unfolding faultFor
-  clear = fault-at w ∙ rw none
+  unfolding fault_for
+  clear = fault_at w ∙ rw none
 
   -- the activity after it
-  after : {b₁ : List ℕ} {r : ℕ} (x : Activity) → end_of (program_of t) (act s i) ≡ x → Lent b₁ (withSteps (withAct s i x) (s.steps + 1)) → r ≡ 0 → x.status ≡ (act s i).status
+  after : {b₁ : List ℕ} {r : ℕ} (x : Activity) → end_of (program_of t) (act s i) ≡ x → Lent b₁ (with_steps (with_act s i x) (s.steps + 1)) → r ≡ 0 → x.status ≡ (act s i).status
       → Turned (program_of t) s i b₁ r
   unfolding effect_of overfull
-  after x e m n q = done-alone w clear (plain w left refl (λ o. omega arith)) x (ap alone e) m (n ∙ sym (rw q (calm w)))
+  after x e m n q = done_alone w clear (plain w left refl (λ o. omega arith)) x (ap alone e) m (n ∙ sym (rw q (calm w)))
 
   pub ended : {b₁ b₂ : List ℕ} {r : ℕ} → d ≤ 1 → WritesAct (λ (a : Activity). stopped a Ended) b b₁ i → Counts b₁ b₂ r → Turned (program_of t) s i b₂ r
-  unfolding effect_of overfull end_of withAct
+  unfolding effect_of overfull end_of with_act
   ended h f g =
       let x = stopped (act s i) Ended in
       let e = depth in
       let q : end_of (program_of t) (act s i) ≡ x = rw (le-leb (act s i).depth 1 (omega arith)) in
-      done-alone w clear (plain w left refl (λ o. omega arith)) x (ap alone q) (g.counts _ (f.writes s l (few w)) (steps-room w left)) g.number
+      done_alone w clear (plain w left refl (λ o. omega arith)) x (ap alone q) (g.counts _ (f.writes s l (few w)) (steps_room w left)) g.number
 
   module _ (h : 1 < d) {f : Frame} (read : d - 1 < 16 → ReadsAct (λ (a : Activity). frame a (d - 1)) b i f) where
     low : d - 1 < 16
@@ -101,39 +101,39 @@ module _ (t : List ℕ) {b : List ℕ} {s : State} {i work d : ℕ} (k : scan t 
     reran m g =
         let e = depth in
         let q : end_of (program_of t) (act s i) ≡ again (act s i) = rw (lt-leb (act s i).depth 1 (omega arith), lt-ltb 1 (top (act s i)).runs (rw (← upper) m)) in
-        after (again (act s i)) q (rw (depth, upper) at (g.reruns s l (few w) low (steps-room w left))) g.number refl
+        after (again (act s i)) q (rw (depth, upper) at (g.reruns s l (few w) low (steps_room w left))) g.number refl
 
     -- what stands below
     abbrev under : Frame
     under = frame (act s i) ((act s i).depth - 1 - 1)
 
-    top-is : top (lower (act s i)) ≡ under
-    top-is = get_or-set_other (act s i).frames ((act s i).depth - 1) ((act s i).depth - 1 - 1) noFrame noFrame (λ q. let e = depth in omega arith)
+    top_is : top (lower (act s i)) ≡ under
+    top_is = get_or-set_other (act s i).frames ((act s i).depth - 1) ((act s i).depth - 1 - 1) no_frame no_frame (λ q. let e = depth in omega arith)
 
     placed : is_placed (program_of t) under ≡ true
     placed = stack.placed ((act s i).depth - 1 - 1) (let e = depth in omega arith)
 
-    runs-it : Ran s.activities (here (program_of t) under).command f
-    runs-it =
+    runs_it : Ran s.activities (here (program_of t) under).command f
+    runs_it =
         let e = depth in
         let z : suc ((act s i).depth - 1 - 1) ≡ (act s i).depth - 1 = omega arith in
         rw upper
         (subst (λ (n : ℕ). Ran s.activities (here (program_of t) under).command (frame (act s i) n)) z (stack.stacked ((act s i).depth - 1 - 1) (omega arith)).by)
 
-    pub popped-out : {b₁ : List ℕ} {size r : ℕ} → f.runs ≤ 1 → cond (eqb f.runs 0) 2 3 ≡ size → Pops b b₁ i d size r → Turned (program_of t) s i b₁ r
-    unfolding end_of popped past withAct
-    popped-out {b₁} {size} {r} once z o =
-        let goes : isEnd (here (program_of t) under).command ≡ false = ran-going runs-it in
-        let n : nextOffset (program_of t) under ≡ under.offset + size =
-        next-is t k under placed goes
+    pub popped_out : {b₁ : List ℕ} {size r : ℕ} → f.runs ≤ 1 → cond (eqb f.runs 0) 2 3 ≡ size → Pops b b₁ i d size r → Turned (program_of t) s i b₁ r
+    unfolding end_of popped past with_act
+    popped_out {b₁} {size} {r} once z o =
+        let goes : is_end (here (program_of t) under).command ≡ false = ran_going runs_it in
+        let n : next_offset (program_of t) under ≡ under.offset + size =
+        next_is t k under placed goes
         ∙ add_assoc under.offset (width (here (program_of t) under).command) (2 * held (here (program_of t) under).command)
-        ∙ rw (size_of runs-it, z) in
+        ∙ rw (size_of runs_it, z) in
         let small = next_small t k under placed goes in
-        let fits : (top (lower (act s i))).offset + size < 2 ^ 16 = rw top-is (omega arith) in
+        let fits : (top (lower (act s i))).offset + size < 2 ^ 16 = rw top_is (omega arith) in
         let q : end_of (program_of t) (act s i) ≡ popped (program_of t) (act s i) =
         let e = depth in
         rw (lt-leb (act s i).depth 1 (omega arith), le-ltb 1 (top (act s i)).runs (rw (← upper) once)) in
-        let v : (top (lower (act s i))).offset + size ≡ nextOffset (program_of t) (top (lower (act s i))) = rw top-is (sym n) in
-        let m = o.pops s l (few w) (steps-room w left) depth h (rw depth (shallow w)) fits in
+        let v : (top (lower (act s i))).offset + size ≡ next_offset (program_of t) (top (lower (act s i))) = rw top_is (sym n) in
+        let m = o.pops s l (few w) (steps_room w left) depth h (rw depth (shallow w)) fits in
         after (popped (program_of t) (act s i)) q
-        (subst (λ (j : ℕ). Lent b₁ (withSteps (withAct s i (with_top (lower (act s i)) (onward (top (lower (act s i))) j))) (s.steps + 1))) v m) o.number refl
+        (subst (λ (j : ℕ). Lent b₁ (with_steps (with_act s i (with_top (lower (act s i)) (onward (top (lower (act s i))) j))) (s.steps + 1))) v m) o.number refl

@@ -6,31 +6,31 @@ use mathlib.Core.List.{List}
 use mathlib.Core.Bool.{false}
 use lib.Dec.{leb}
 use borrow.Author.Tests.{ne_eqb}
-use Rattle.program.specs.Command.{isEnd}
+use Rattle.program.specs.Command.{is_end}
 use Rattle.program.specs.Bodies.{Program}
 use Rattle.program.specs.declared.command.Command.TheVariants.{Finish, Repeat, Choose}
-use Rattle.program.proofs.ShapeRows.{names-is, span-is}
+use Rattle.program.proofs.ShapeRows.{names_is, span_is}
 use Rattle.rules.specs.declared.state.Frame.{Frame}
 use Rattle.rules.specs.declared.state.Activity.{Activity}
 use Rattle.rules.specs.declared.state.State.{State}
 use Rattle.rules.specs.State.{act}
-use Rattle.rules.specs.Faults.{faultFor}
-use Rattle.rules.specs.Effects.{alone, past, pushed, repeatOf, chooseOf, effect_of}
+use Rattle.rules.specs.Faults.{fault_for}
+use Rattle.rules.specs.Effects.{alone, past, pushed, repeat_of, choose_of, effect_of}
 use Rattle.moves.specs.Exceeding.{overfull}
-use Rattle.fields.specs.Lent.{Lent, Reads, ReadsAct, WritesAct, withAct, withFrame, withDepth}
+use Rattle.fields.specs.Lent.{Lent, Reads, ReadsAct, WritesAct, with_act, with_frame, with_depth}
 use Rattle.moves.specs.Moves.{Standing, Turned, Counts, GoesOn}
 use Rattle.bodies.specs.Pushes.{Pushes}
 use Rattle.moves.proofs.Withs.{then}
-use Rattle.moves.proofs.Standings.{few, fault-here, plain, calm, steps-room, went, done-alone}
+use Rattle.moves.proofs.Standings.{few, fault_here, plain, calm, steps_room, went, done_alone}
 
 abbrev pub begun : ℕ → ℕ → ℕ → Frame
 begun body runs first = record { offset = 0; body = body; runs = runs; first = first }
 
-pub push-done : {b b₁ b₂ b₃ : List ℕ} {i d body runs first r : ℕ} → ReadsAct (λ (a : Activity). a.depth) b i d
-    → (d < 16 → WritesAct (λ (a : Activity). withFrame a d (begun body runs first)) b b₁ i) → WritesAct (λ (a : Activity). withDepth a (d + 1)) b₁ b₂ i
+pub push_done : {b b₁ b₂ b₃ : List ℕ} {i d body runs first r : ℕ} → ReadsAct (λ (a : Activity). a.depth) b i d
+    → (d < 16 → WritesAct (λ (a : Activity). with_frame a d (begun body runs first)) b b₁ i) → WritesAct (λ (a : Activity). with_depth a (d + 1)) b₁ b₂ i
     → Counts b₂ b₃ r → Pushes body runs first b b₃ i r
-unfolding pushed withAct
-push-done {i = i} {d = d} f g h k =
+unfolding pushed with_act
+push_done {i = i} {d = d} f g h k =
     record {
       number = k.number;
       pushes =
@@ -40,36 +40,36 @@ push-done {i = i} {d = d} f g h k =
     }
 
 module _ {b b₁ : List ℕ} {p : Program} {s : State} {i work : ℕ} (l : Lent b s) (left : false ≡ leb work s.steps) where
-  pub finish-done : {body first r : ℕ} → Standing p s i work (Finish body) → Reads (λ (t : State). t.activities) b first → Pushes body 0 first b b₁ i r → Turned p s i b₁ r
-  unfolding faultFor effect_of overfull pushed
-  finish-done {body = body} w f g =
+  pub finish_done : {body first r : ℕ} → Standing p s i work (Finish body) → Reads (λ (t : State). t.activities) b first → Pushes body 0 first b b₁ i r → Turned p s i b₁ r
+  unfolding fault_for effect_of overfull pushed
+  finish_done {body = body} w f g =
       let x = pushed (act s i) body 0 s.activities in
-      let m = rw (f.reads s l) at (g.pushes s l (few w) (steps-room w left) (w.deep (names-is (Finish body)))) in
-      done-alone w (fault-here w refl) (plain w left refl (λ q. omega arith)) x refl m (g.number ∙ sym (calm w))
+      let m = rw (f.reads s l) at (g.pushes s l (few w) (steps_room w left) (w.deep (names_is (Finish body)))) in
+      done_alone w (fault_here w refl) (plain w left refl (λ q. omega arith)) x refl m (g.number ∙ sym (calm w))
 
-  pub repeat-none : {n body r : ℕ} → Standing p s i work (Repeat n body) → n ≡ 0 → GoesOn b b₁ i 3 r → Turned p s i b₁ r
-  unfolding faultFor effect_of overfull repeatOf past isEnd
-  repeat-none {n} {body} w e g = done-alone w (fault-here w refl) (plain w left refl (λ q. omega arith)) (past p (act s i)) (rw e) (went w refl (span-is (Repeat n body)) left l refl refl refl g) (g.number ∙ sym (calm w))
+  pub repeat_none : {n body r : ℕ} → Standing p s i work (Repeat n body) → n ≡ 0 → GoesOn b b₁ i 3 r → Turned p s i b₁ r
+  unfolding fault_for effect_of overfull repeat_of past is_end
+  repeat_none {n} {body} w e g = done_alone w (fault_here w refl) (plain w left refl (λ q. omega arith)) (past p (act s i)) (rw e) (went w refl (span_is (Repeat n body)) left l refl refl refl g) (g.number ∙ sym (calm w))
 
-  pub repeat-some : {n body r : ℕ} → Standing p s i work (Repeat n body) → (n ≡ 0 → ⊥) → Pushes body n 0 b b₁ i r → Turned p s i b₁ r
-  unfolding faultFor effect_of overfull pushed repeatOf
-  repeat-some {n} {body} w e g =
+  pub repeat_some : {n body r : ℕ} → Standing p s i work (Repeat n body) → (n ≡ 0 → ⊥) → Pushes body n 0 b b₁ i r → Turned p s i b₁ r
+  unfolding fault_for effect_of overfull pushed repeat_of
+  repeat_some {n} {body} w e g =
       let x = pushed (act s i) body n 0 in
-      done-alone w (fault-here w refl) (plain w left refl (λ q. omega arith)) x (ap alone (runs n e)) (g.pushes s l (few w) (steps-room w left) (w.deep (names-is (Repeat n body)))) (g.number ∙ sym (calm w))
+      done_alone w (fault_here w refl) (plain w left refl (λ q. omega arith)) x (ap alone (runs n e)) (g.pushes s l (few w) (steps_room w left) (w.deep (names_is (Repeat n body)))) (g.number ∙ sym (calm w))
     where
-      runs : (n : ℕ) → (n ≡ 0 → ⊥) → repeatOf p (act s i) n body ≡ pushed (act s i) body n 0
+      runs : (n : ℕ) → (n ≡ 0 → ⊥) → repeat_of p (act s i) n body ≡ pushed (act s i) body n 0
       runs zero h = absurd (h refl)
       runs (suc n) h = refl
 
-  pub choose-none : {body v r : ℕ} → Standing p s i work (Choose body) → ReadsAct (λ (a : Activity). a.register) b i v → v ≡ 0 → GoesOn b b₁ i 2 r → Turned p s i b₁ r
-  unfolding faultFor effect_of overfull chooseOf past isEnd
-  choose-none {body} w f e g =
+  pub choose_none : {body v r : ℕ} → Standing p s i work (Choose body) → ReadsAct (λ (a : Activity). a.register) b i v → v ≡ 0 → GoesOn b b₁ i 2 r → Turned p s i b₁ r
+  unfolding fault_for effect_of overfull choose_of past is_end
+  choose_none {body} w f e g =
       let z : (act s i).register ≡ 0 = sym (f.reads s l (few w)) ∙ e in
-      done-alone w (fault-here w refl) (plain w left refl (λ q. omega arith)) (past p (act s i)) (rw z) (went w refl (span-is (Choose body)) left l refl refl refl g) (g.number ∙ sym (calm w))
+      done_alone w (fault_here w refl) (plain w left refl (λ q. omega arith)) (past p (act s i)) (rw z) (went w refl (span_is (Choose body)) left l refl refl refl g) (g.number ∙ sym (calm w))
 
-  pub choose-some : {body v r : ℕ} → Standing p s i work (Choose body) → ReadsAct (λ (a : Activity). a.register) b i v → (v ≡ 0 → ⊥) → Pushes body 0 0 b b₁ i r → Turned p s i b₁ r
-  unfolding faultFor effect_of overfull pushed chooseOf
-  choose-some {body} w f e g =
+  pub choose_some : {body v r : ℕ} → Standing p s i work (Choose body) → ReadsAct (λ (a : Activity). a.register) b i v → (v ≡ 0 → ⊥) → Pushes body 0 0 b b₁ i r → Turned p s i b₁ r
+  unfolding fault_for effect_of overfull pushed choose_of
+  choose_some {body} w f e g =
       let z = ne_eqb (act s i).register 0 (λ q. e (f.reads s l (few w) ∙ q)) in
       let x = pushed (act s i) body 0 0 in
-      done-alone w (fault-here w refl) (plain w left refl (λ q. omega arith)) x (rw z) (g.pushes s l (few w) (steps-room w left) (w.deep (names-is (Choose body)))) (g.number ∙ sym (calm w))
+      done_alone w (fault_here w refl) (plain w left refl (λ q. omega arith)) x (rw z) (g.pushes s l (few w) (steps_room w left) (w.deep (names_is (Choose body)))) (g.number ∙ sym (calm w))

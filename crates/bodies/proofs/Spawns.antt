@@ -7,52 +7,52 @@ use mathlib.Core.Bool.{Bool, true, false, cond, ◌&&◌}
 use lib.Seq.{set_comm}
 use lib.Dec.{ltb, leb}
 use borrow.Author.Tests.{le-leb, lt-leb}
-use Rattle.program.specs.Command.{isEnd}
+use Rattle.program.specs.Command.{is_end}
 use Rattle.program.specs.Bodies.{Program, program_of}
 use Rattle.program.specs.declared.command.Command.TheVariants.{Async}
-use Rattle.program.proofs.ShapeRows.{span-is}
+use Rattle.program.proofs.ShapeRows.{span_is}
 use Rattle.rules.specs.declared.state.Fault.{Fault}
 use Rattle.rules.specs.declared.state.Status.TheVariants.{Running}
 use Rattle.rules.specs.declared.state.Frame.{Frame}
 use Rattle.rules.specs.declared.state.Activity.{Activity}
 use Rattle.rules.specs.declared.state.State.{State}
-use Rattle.rules.specs.State.{faultNumber, faultOf, act}
-use Rattle.rules.specs.Tree.{inOwnFinish}
-use Rattle.rules.specs.Faults.{lendsUnheld, lendsQuiesced, asyncFault, faultFor}
-use Rattle.rules.specs.Effects.{stopped, withRegister, child, spawning, past, effect_of, withStores, applied}
+use Rattle.rules.specs.State.{fault_number, fault_of, act}
+use Rattle.rules.specs.Tree.{in_own_finish}
+use Rattle.rules.specs.Faults.{lends_unheld, lends_quiesced, async_fault, fault_for}
+use Rattle.rules.specs.Effects.{stopped, with_register, child, spawning, past, effect_of, with_stores, applied}
 use Rattle.rules.specs.Steps.{base, at, fault, effect, exceeds}
 use Rattle.rules.proofs.Turn.{turn}
 use Rattle.places.specs.Known.{Known}
-use Rattle.moves.specs.Exceeding.{overfull, exceedsAt}
+use Rattle.moves.specs.Exceeding.{overfull, exceeds_at}
 use Rattle.places.proofs.Roots.{stack_of}
-use Rattle.fields.specs.Lent.{Lent, Writes, WritesAct, withAct, withSteps, withActivities, withSpawner, withFrame, withDepth}
+use Rattle.fields.specs.Lent.{Lent, Writes, WritesAct, with_act, with_steps, with_activities, with_spawner, with_frame, with_depth}
 use Rattle.moves.specs.Moves.{Standing, Turned, GoesOn}
 use Rattle.bodies.specs.Lends.{ReadsIn}
 use Rattle.bodies.specs.Gives.{Gives}
-use Rattle.moves.proofs.Withs.{act-with, act-other, with-with, then}
-use Rattle.moves.proofs.Standings.{spawned, few, fault-here, asks, plain, calm, went, done}
+use Rattle.moves.proofs.Withs.{act_with, act_other, with_with, then}
+use Rattle.moves.proofs.Standings.{spawned, few, fault_here, asks, plain, calm, went, done}
 
 -- THE FAULT
 
-number_of : (x y z : Bool) → let n : ℕ = cond x 3 (cond y 1 (cond z 2 0)) in (n ≡ 0 → ⊥) → faultNumber (faultOf n) ≡ n
+number_of : (x y z : Bool) → let n : ℕ = cond x 3 (cond y 1 (cond z 2 0)) in (n ≡ 0 → ⊥) → fault_number (fault_of n) ≡ n
 number_of true y z n = refl
 number_of false true z n = refl
 number_of false false true n = refl
 number_of false false false n = absurd (n refl)
 
 module _ {t starts b₀ : List ℕ} {s : State} {i work b m f : ℕ} (k : Known t starts) (l : Lent b₀ s) (w : Standing (program_of t) s i work (Async b m))
-    (read : ReadsIn (λ (p : Program) (a : Activity). asyncFault p a m) t starts b₀ i f) where
+    (read : ReadsIn (λ (p : Program) (a : Activity). async_fault p a m) t starts b₀ i f) where
   pub met : fault (program_of t) s i ≡ f
-  unfolding faultFor
-  met = fault-here w refl ∙ sym (read.reads k s l (few w) (stack_of (record { known = k; formed = w.formed }) (spawned w) (turn (program_of t) s i w.goes).unended))
+  unfolding fault_for
+  met = fault_here w refl ∙ sym (read.reads k s l (few w) (stack_of (record { known = k; formed = w.formed }) (spawned w) (turn (program_of t) s i w.goes).unended))
 
-  pub met-number : {x : Fault} → (f ≡ 0 → ⊥) → x ≡ faultOf f → fault (program_of t) s i ≡ faultNumber x
-  unfolding faultFor asyncFault
-  met-number n e =
+  pub met_number : {x : Fault} → (f ≡ 0 → ⊥) → x ≡ fault_of f → fault (program_of t) s i ≡ fault_number x
+  unfolding fault_for async_fault
+  met_number n e =
       let a = act s i in
-      let q = fault-here w refl in
-      let z : f ≡ asyncFault (program_of t) a m = sym met ∙ q in
-      met ∙ z ∙ sym (number_of (ltb 0 m && inOwnFinish (program_of t) a) (lendsUnheld a m) (lendsQuiesced a m) (λ o. n (z ∙ o))) ∙ sym (ap faultNumber (e ∙ ap faultOf z))
+      let q = fault_here w refl in
+      let z : f ≡ async_fault (program_of t) a m = sym met ∙ q in
+      met ∙ z ∙ sym (number_of (ltb 0 m && in_own_finish (program_of t) a) (lends_unheld a m) (lends_quiesced a m) (λ o. n (z ∙ o))) ∙ sym (ap fault_number (e ∙ ap fault_of z))
 
 -- THE CHILD
 
@@ -61,44 +61,44 @@ first b = record { offset = 0; body = b; runs = 0; first = 0 }
 
 -- what the child's entry is before the names and the clocks
 abbrev pub young : ℕ → ℕ → ℕ → Activity → Activity
-young reg w b x = withDepth (withFrame (withSpawner (withRegister (stopped x Running) reg) w) 0 (first b)) 1
+young reg w b x = with_depth (with_frame (with_spawner (with_register (stopped x Running) reg) w) 0 (first b)) 1
 
-pub grown : {b₀ b₁ b₂ b₃ b₄ b₅ : List ℕ} {n : ℕ} (reg w b : ℕ) → WritesAct (λ (a : Activity). stopped a Running) b₀ b₁ n → WritesAct (λ (a : Activity). withRegister a reg) b₁ b₂ n
-    → WritesAct (λ (a : Activity). withSpawner a w) b₂ b₃ n → WritesAct (λ (a : Activity). withFrame a 0 (first b)) b₃ b₄ n → WritesAct (λ (a : Activity). withDepth a 1) b₄ b₅ n
+pub grown : {b₀ b₁ b₂ b₃ b₄ b₅ : List ℕ} {n : ℕ} (reg w b : ℕ) → WritesAct (λ (a : Activity). stopped a Running) b₀ b₁ n → WritesAct (λ (a : Activity). with_register a reg) b₁ b₂ n
+    → WritesAct (λ (a : Activity). with_spawner a w) b₂ b₃ n → WritesAct (λ (a : Activity). with_frame a 0 (first b)) b₃ b₄ n → WritesAct (λ (a : Activity). with_depth a 1) b₄ b₅ n
     → WritesAct (young reg w b) b₀ b₅ n
 grown reg w b f g h k d = then (then (then (then f g) h) k) d
 
 -- the child, the count, and the spawner, who goes on
-applied-spawning : (s : State) (i n v : ℕ) (x kid : Activity) → n ≡ s.activities → v ≡ n + 1 → (i ≡ n → ⊥)
-    → withSteps (withAct (withActivities (withAct s n kid) v) i x) (s.steps + 1) ≡ applied s i (spawning x kid)
-unfolding withSteps withAct withActivities applied withStores
-applied-spawning s i n v x kid e z d = rw (z, set_comm s.acts n i kid x (λ q. d (sym q)), e)
+applied_spawning : (s : State) (i n v : ℕ) (x kid : Activity) → n ≡ s.activities → v ≡ n + 1 → (i ≡ n → ⊥)
+    → with_steps (with_act (with_activities (with_act s n kid) v) i x) (s.steps + 1) ≡ applied s i (spawning x kid)
+unfolding with_steps with_act with_activities applied with_stores
+applied_spawning s i n v x kid e z d = rw (z, set_comm s.acts n i kid x (λ q. d (sym q)), e)
 
-steps-kept : (s : State) (n : ℕ) (x : Activity) (v : ℕ) → (withActivities (withAct s n x) v).steps ≡ s.steps
-unfolding withAct withActivities
-steps-kept s n x v = refl
+steps_kept : (s : State) (n : ℕ) (x : Activity) (v : ℕ) → (with_activities (with_act s n x) v).steps ≡ s.steps
+unfolding with_act with_activities
+steps_kept s n x v = refl
 
 module _ {b₀ : List ℕ} {p : Program} {s : State} {i work b m : ℕ} (l : Lent b₀ s) (w : Standing p s i work (Async b m)) (clear : fault p s i ≡ 0) (left : false ≡ leb work s.steps) where
   -- a 65th activity
   pub crowded : 64 ≤ s.activities → true ≡ exceeds base p s (effect p s i)
-  unfolding exceedsAt overfull
+  unfolding exceeds_at overfull
   crowded h = asks w (sym clear) (rw (sym left, le-leb 64 s.activities h))
 
   pub born : {b₁ b₂ b₃ b₄ : List ℕ} {n reg o v r : ℕ} → n ≡ s.activities → n < 64 → reg ≡ (act s i).register → o ≡ i → WritesAct (young reg o b) b₀ b₁ n → Gives m b₁ b₂ i n → v ≡ n + 1
-      → Writes (λ (t : State). withActivities t v) b₂ b₃ → GoesOn b₃ b₄ i 3 r → Turned p s i b₄ r
-  unfolding effect_of overfull past isEnd withActivities child
+      → Writes (λ (t : State). with_activities t v) b₂ b₃ → GoesOn b₃ b₄ i 3 r → Turned p s i b₄ r
+  unfolding effect_of overfull past is_end with_activities child
   born {n = n} {reg = reg} {o = o} {v = v} e few-acts x y f g z c k =
       let a = act s i in
       let d : i ≡ n → ⊥ = λ q. let u = spawned w in omega arith in
       let u = f.writes s l few-acts in
       let old = young reg o b (act s n) in
-      let q : act (withAct s n old) n ≡ old = act-with old l few-acts in
-      let same : act (withAct s n old) i ≡ a = act-other s i n old d in
+      let q : act (with_act s n old) n ≡ old = act_with old l few-acts in
+      let same : act (with_act s n old) i ≡ a = act_other s i n old d in
       let grew = g.gives _ u (few w) few-acts d (ap (λ (t : Activity). t.holds) q) in
-      let full = rw (q, same, with-with, x, y) at grew in
+      let full = rw (q, same, with_with, x, y) at grew in
       let kid = child i a b m in
-      let t : Lent _ (withActivities (withAct s n kid) v) = c.writes _ full in
-      let own : act (withActivities (withAct s n kid) v) i ≡ a = act-other s i n kid d in
-      let on = went w refl (span-is (Async b m)) left t (ap (λ (t : Activity). t.frames) own) (ap (λ (t : Activity). t.depth) own) (steps-kept s n kid v) k in
+      let t : Lent _ (with_activities (with_act s n kid) v) = c.writes _ full in
+      let own : act (with_activities (with_act s n kid) v) i ≡ a = act_other s i n kid d in
+      let on = went w refl (span_is (Async b m)) left t (ap (λ (t : Activity). t.frames) own) (ap (λ (t : Activity). t.depth) own) (steps_kept s n kid v) k in
       let room : leb 64 s.activities ≡ false = lt-leb 64 s.activities (rw (sym e) few-acts) in
-      done w clear (plain w left (rw room) (λ o. omega arith)) (rw (own, applied-spawning s i n v (past p a) kid e z d) at on) (k.number ∙ sym (calm w))
+      done w clear (plain w left (rw room) (λ o. omega arith)) (rw (own, applied_spawning s i n v (past p a) kid e z d) at on) (k.number ∙ sym (calm w))

@@ -4,7 +4,7 @@ use Rattle.program.specs.Bodies.{Program, program_of}
 use Rattle.rules.specs.declared.state.Activity.{Activity}
 use Rattle.rules.specs.declared.state.State.{State}
 use Rattle.rules.specs.State.{act}
-use Rattle.rules.specs.Faults.{lendsUnheld, lendsQuiesced}
+use Rattle.rules.specs.Faults.{lends_unheld, lends_quiesced}
 use Rattle.places.specs.Known.{Known}
 use Rattle.places.specs.Stack.{Stacked}
 use Rattle.fields.specs.Lent.{Lent}
@@ -14,5 +14,5 @@ pub record ReadsIn {A : Type 0} (f : Program → Activity → A) (t starts b : L
   pub reads : Known t starts → (s : State) → Lent b s → i < 64 → Stacked (program_of t) (act s i) → r ≡ f (program_of t) (act s i)
 
 -- F1 and F2.
-abbrev pub lendFault : Activity → ℕ → ℕ
-lendFault a m = cond (lendsUnheld a m) 1 (cond (lendsQuiesced a m) 2 0)
+abbrev pub lend_fault : Activity → ℕ → ℕ
+lend_fault a m = cond (lends_unheld a m) 1 (cond (lends_quiesced a m) 2 0)

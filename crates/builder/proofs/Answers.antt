@@ -9,66 +9,66 @@ use lib.ListN.{length, take, drop, length-take, length-map}
 use lib.Seq.{take-append_seam, take_at}
 use lib.Dec.{leb}
 use borrow.Author.Tests.{le-leb, ne_eqb, lt-ltb, le-ltb}
-use Rattle.program.specs.Reading.{commandsOf}
-use Rattle.program.specs.Scan.{fitsLength}
-use Rattle.program.specs.Table.{workLimit, number_of}
+use Rattle.program.specs.Reading.{commands_of}
+use Rattle.program.specs.Scan.{fits_length}
+use Rattle.program.specs.Table.{work_limit, number_of}
 use Rattle.program.proofs.Basic.{Bytes}
-use Rattle.program.proofs.TableLaws.{too_long, many-bodies}
+use Rattle.program.proofs.TableLaws.{too_long, many_bodies}
 use Rattle.program.proofs.ShapeListed.{passes}
 use Rattle.program.proofs.ShapeLaws.{numbered}
-use Rattle.builder.specs.Build.{commandIn, entryOf, endsIn, bytes_of, listBytes, builtNumber, builtLength, builtBytes, listedNumber, listedCount, listedEntries}
+use Rattle.builder.specs.Build.{command_in, entry_of, ends_in, bytes_of, list_bytes, built_number, built_length, built_bytes, listed_number, listed_count, listed_entries}
 use Rattle.builder.specs.Filled.{capped, Written, Filled}
 use Rattle.builder.proofs.Entries.{Five, ends_some}
-use Rattle.builder.proofs.ReadsBack.{reads-back}
-use Rattle.builder.proofs.BuildsBack.{builds-back}
+use Rattle.builder.proofs.ReadsBack.{reads_back}
+use Rattle.builder.proofs.BuildsBack.{builds_back}
 
 -- THE BYTES THAT WERE MADE
 
 module _ {entries : List (List ℕ)} {out : List ℕ} {n : ℕ} (f : Filled entries out n) where
   -- More than 2,048 bytes would be made.
-  pub unmade : n ≡ 0 → 1 ≡ number_of workLimit (listBytes entries)
-  unfolding listBytes
-  unmade e = by (dec_le (length (listBytes entries)) 2048)
+  pub unmade : n ≡ 0 → 1 ≡ number_of work_limit (list_bytes entries)
+  unfolding list_bytes
+  unmade e = by (dec_le (length (list_bytes entries)) 2048)
     where
-      by : Dec (length (listBytes entries) ≤ 2048) → 1 ≡ number_of workLimit (listBytes entries)
+      by : Dec (length (list_bytes entries) ≤ 2048) → 1 ≡ number_of work_limit (list_bytes entries)
       by (yes h) = absurd (let l = (f.fits h).long in omega arith)
-      by (no h) = sym (too_long workLimit (listBytes entries) (omega arith))
+      by (no h) = sym (too_long work_limit (list_bytes entries) (omega arith))
 
   -- They are all there.
   pub made : (n ≡ 0 → ⊥) → Written entries out n
-  made some = by (dec_le (length (listBytes entries)) 2048)
+  made some = by (dec_le (length (list_bytes entries)) 2048)
     where
-      by : Dec (length (listBytes entries) ≤ 2048) → Written entries out n
+      by : Dec (length (list_bytes entries) ≤ 2048) → Written entries out n
       by (yes h) = f.fits h
       by (no h) = absurd (some (f.over (omega arith)))
 
 -- Byte 0 is answered alike where it is counted up to 17.
-capped-number : (n : ℕ) (s : List ℕ) → number_of workLimit (capped n ∷ s) ≡ number_of workLimit (n ∷ s)
+capped-number : (n : ℕ) (s : List ℕ) → number_of work_limit (capped n ∷ s) ≡ number_of work_limit (n ∷ s)
 capped-number n s = by (dec_le n 16)
   where
-    by : Dec (n ≤ 16) → number_of workLimit (capped n ∷ s) ≡ number_of workLimit (n ∷ s)
-    by (yes h) = ap (λ (x : ℕ). number_of workLimit (x ∷ s)) (let e : capped n ≡ n = omega arith in e)
-    by (no h) = many-bodies workLimit (capped n) s (omega arith) ∙ sym (many-bodies workLimit n s (omega arith))
+    by : Dec (n ≤ 16) → number_of work_limit (capped n ∷ s) ≡ number_of work_limit (n ∷ s)
+    by (yes h) = ap (λ (x : ℕ). number_of work_limit (x ∷ s)) (let e : capped n ≡ n = omega arith in e)
+    by (no h) = many_bodies work_limit (capped n) s (omega arith) ∙ sym (many_bodies work_limit n s (omega arith))
 
 module _ {entries : List (List ℕ)} {out : List ℕ} {n : ℕ} (w : Written entries out n) where
   pub written-long : length (take n out) ≡ n
-  unfolding listBytes
+  unfolding list_bytes
   written-long = ap length w.bytes ∙ sym w.long
 
   pub written-inside : n ≤ length out
   written-inside = let e = sym (length-take n out) ∙ written-long in omega arith
 
   -- The reader answers of them what it would of the list's bytes,
-  pub written-number : number_of workLimit (take n out) ≡ number_of workLimit (listBytes entries)
-  unfolding listBytes
-  written-number = rw w.bytes (capped-number (endsIn entries) (bytes_of entries))
+  pub written-number : number_of work_limit (take n out) ≡ number_of work_limit (list_bytes entries)
+  unfolding list_bytes
+  written-number = rw w.bytes (capped-number (ends_in entries) (bytes_of entries))
 
   -- and where it accepts they are these.
-  pub written-bytes : number_of workLimit (listBytes entries) ≡ 0 → take n out ≡ listBytes entries
-  unfolding listBytes
+  pub written-bytes : number_of work_limit (list_bytes entries) ≡ 0 → take n out ≡ list_bytes entries
+  unfolding list_bytes
   written-bytes e =
-      let few : endsIn entries ≤ 16 = (passes (listBytes entries) (numbered workLimit (listBytes entries) e)).few in
-      let c : capped (endsIn entries) ≡ endsIn entries = omega arith in
+      let few : ends_in entries ≤ 16 = (passes (list_bytes entries) (numbered work_limit (list_bytes entries) e)).few in
+      let c : capped (ends_in entries) ≡ ends_in entries = omega arith in
       w.bytes ∙ ap (λ (x : ℕ). x ∷ bytes_of entries) c
 
 -- BUILD
@@ -76,67 +76,67 @@ module _ {entries : List (List ℕ)} {out : List ℕ} {n : ℕ} (w : Written ent
 -- What is promised of an answer and of the buffer after it.
 abbrev pub Builds : List (List ℕ) → List ℕ → ℕ → ℕ → List ℕ → Type 0
 Builds entries buffer number size after =
-    (number ≡ builtNumber entries (length buffer))
-    × ((size ≡ builtLength entries (length buffer)) × ((after ≡ builtBytes entries buffer) × (number ≡ 0 → commandsOf (take size after) ≡ map commandIn entries)))
+    (number ≡ built_number entries (length buffer))
+    × ((size ≡ built_length entries (length buffer)) × ((after ≡ built_bytes entries buffer) × (number ≡ 0 → commands_of (take size after) ≡ map command_in entries)))
 
 -- "more than 16 gives 2", where there are at most 2,048 bytes.
-pub ends-many : (entries : List (List ℕ)) (room : ℕ) → Five entries → 16 < endsIn entries → length (listBytes entries) ≤ 2048 → builtNumber entries room ≡ 2
-unfolding builtNumber listBytes fitsLength
+pub ends-many : (entries : List (List ℕ)) (room : ℕ) → Five entries → 16 < ends_in entries → length (list_bytes entries) ≤ 2048 → built_number entries room ≡ 2
+unfolding built_number list_bytes fits_length
 ends-many entries room five many h =
     let some = ends_some entries five (omega arith) in
-    let two : leb 2 (length (listBytes entries)) ≡ true = le-leb 2 (length (listBytes entries)) (omega arith) in
-    let e : number_of workLimit (listBytes entries) ≡ 2 = many-bodies workLimit (endsIn entries) (bytes_of entries) many ∙ rw (two, le-leb (length (listBytes entries)) 2048 h) in
+    let two : leb 2 (length (list_bytes entries)) ≡ true = le-leb 2 (length (list_bytes entries)) (omega arith) in
+    let e : number_of work_limit (list_bytes entries) ≡ 2 = many_bodies work_limit (ends_in entries) (bytes_of entries) many ∙ rw (two, le-leb (length (list_bytes entries)) 2048 h) in
     rw e
 
 module _ (entries : List (List ℕ)) (buffer : List ℕ) where
   -- The bytes are turned down.
-  pub build-refused : {n : ℕ} → n ≡ number_of workLimit (listBytes entries) → (n ≡ 0 → ⊥) → Builds entries buffer n 0 buffer
-  unfolding builtNumber builtLength builtBytes
+  pub build-refused : {n : ℕ} → n ≡ number_of work_limit (list_bytes entries) → (n ≡ 0 → ⊥) → Builds entries buffer n 0 buffer
+  unfolding built_number built_length built_bytes
   build-refused e some =
-      let k = ne_eqb (number_of workLimit (listBytes entries)) 0 (λ z. some (e ∙ z)) in
+      let k = ne_eqb (number_of work_limit (list_bytes entries)) 0 (λ z. some (e ∙ z)) in
       (rw k e, (rw (k, k), (rw (k, k), λ z. absurd (some z))))
 
-  module _ (e : number_of workLimit (listBytes entries) ≡ 0) where
+  module _ (e : number_of work_limit (list_bytes entries) ≡ 0) where
     -- The buffer is too short.
-    pub build-short : length buffer < length (listBytes entries) → Builds entries buffer 18 0 buffer
-    unfolding builtNumber builtLength builtBytes
+    pub build-short : length buffer < length (list_bytes entries) → Builds entries buffer 18 0 buffer
+    unfolding built_number built_length built_bytes
     build-short h = let k = lt-ltb _ _ h in (rw (e, k), (rw (e, k), (rw (e, k), λ z. absurd (let y : ⊥ = omega arith in y))))
 
     -- The list is accepted.
-    pub build-done : {n : ℕ} {made after : List ℕ} → Five entries → n ≡ length (listBytes entries) → made ≡ listBytes entries → n ≤ length buffer
+    pub build-done : {n : ℕ} {made after : List ℕ} → Five entries → n ≡ length (list_bytes entries) → made ≡ list_bytes entries → n ≤ length buffer
         → after ≡ made ++ drop (length made) buffer → Builds entries buffer 0 n after
-    unfolding builtNumber builtLength builtBytes
+    unfolding built_number built_length built_bytes
     build-done five l m h w =
-        let k = le-ltb (length buffer) (length (listBytes entries)) (omega arith) in
-        let r = reads-back entries five (numbered workLimit (listBytes entries) e) in
-        (rw (e, k), (rw (e, k) l, (rw (e, k, w, m), λ z. rw (w, m, l, take-append_seam (listBytes entries) (drop (length (listBytes entries)) buffer)) r)))
+        let k = le-ltb (length buffer) (length (list_bytes entries)) (omega arith) in
+        let r = reads_back entries five (numbered work_limit (list_bytes entries) e) in
+        (rw (e, k), (rw (e, k) l, (rw (e, k, w, m), λ z. rw (w, m, l, take-append_seam (list_bytes entries) (drop (length (list_bytes entries)) buffer)) r)))
 
 -- LIST
 
 abbrev pub Lists : List ℕ → List (List ℕ) → ℕ → ℕ → List (List ℕ) → Type 0
 Lists t entries number count after =
-    (number ≡ listedNumber t (length entries))
-    × ((count ≡ listedCount t (length entries)) × ((after ≡ listedEntries t entries) × (number ≡ 0 → listBytes (take count after) ≡ t)))
+    (number ≡ listed_number t (length entries))
+    × ((count ≡ listed_count t (length entries)) × ((after ≡ listed_entries t entries) × (number ≡ 0 → list_bytes (take count after) ≡ t)))
 
 module _ (t : List ℕ) (entries : List (List ℕ)) where
   -- The table is turned down.
-  pub list-refused : {n : ℕ} → n ≡ number_of workLimit t → (n ≡ 0 → ⊥) → Lists t entries n 0 entries
-  unfolding listedNumber listedCount listedEntries
+  pub list-refused : {n : ℕ} → n ≡ number_of work_limit t → (n ≡ 0 → ⊥) → Lists t entries n 0 entries
+  unfolding listed_number listed_count listed_entries
   list-refused e some =
-      let k = ne_eqb (number_of workLimit t) 0 (λ z. some (e ∙ z)) in
+      let k = ne_eqb (number_of work_limit t) 0 (λ z. some (e ∙ z)) in
       (rw k e, (rw (k, k), (rw (k, k), λ z. absurd (some z))))
 
-  module _ (e : number_of workLimit t ≡ 0) where
+  module _ (e : number_of work_limit t ≡ 0) where
     -- There are too few entries.
-    pub list-short : length entries < length (commandsOf t) → Lists t entries 18 0 entries
-    unfolding listedNumber listedCount listedEntries
+    pub list-short : length entries < length (commands_of t) → Lists t entries 18 0 entries
+    unfolding listed_number listed_count listed_entries
     list-short h = let k = lt-ltb _ _ h in (rw (e, k), (rw (e, k), (rw (e, k), λ z. absurd (let y : ⊥ = omega arith in y))))
 
     -- The commands are listed.
-    pub list_done : {n : ℕ} {after : List (List ℕ)} → Bytes t → n ≡ length (commandsOf t) → n ≤ length entries
-        → after ≡ map entryOf (commandsOf t) ++ drop (length (commandsOf t)) entries → Lists t entries 0 n after
-    unfolding listedNumber listedCount listedEntries
+    pub list_done : {n : ℕ} {after : List (List ℕ)} → Bytes t → n ≡ length (commands_of t) → n ≤ length entries
+        → after ≡ map entry_of (commands_of t) ++ drop (length (commands_of t)) entries → Lists t entries 0 n after
+    unfolding listed_number listed_count listed_entries
     list_done b l h w =
-        let k = le-ltb (length entries) (length (commandsOf t)) (omega arith) in
-        let s = take_at (map entryOf (commandsOf t)) (drop (length (commandsOf t)) entries) (length (commandsOf t)) (length-map (commandsOf t) entryOf) in
-        (rw (e, k), (rw (e, k) l, (rw (e, k) w, λ z. rw (w, l, s) (builds-back t b (numbered workLimit t e)))))
+        let k = le-ltb (length entries) (length (commands_of t)) (omega arith) in
+        let s = take_at (map entry_of (commands_of t)) (drop (length (commands_of t)) entries) (length (commands_of t)) (length-map (commands_of t) entry_of) in
+        (rw (e, k), (rw (e, k) l, (rw (e, k) w, λ z. rw (w, l, s) (builds_back t b (numbered work_limit t e)))))

@@ -21,15 +21,15 @@ module _ {A : Type 0} (a b : List A) where
       rw (add-one, take-suc a i d h, append_snoc) put
 
   -- As long as b.
-  pub copied-long : (i : ℕ) → i ≤ length a → i ≤ length b → length (copied i) ≡ length b
-  copied-long i h k = rw (length-append, length-take-le i a h, length-drop) (omega arith)
+  pub copied_long : (i : ℕ) → i ≤ length a → i ≤ length b → length (copied i) ≡ length b
+  copied_long i h k = rw (length-append, length-take-le i a h, length-drop) (omega arith)
 
   -- All of a.
   pub copied_all : (i : ℕ) → length a ≤ i → i ≤ length a → copied i ≡ a ++ drop (length a) b
   copied_all i h k = let e : i ≡ length a = omega arith in rw (e, take_all (length a) a (omega arith))
 
   -- All of b is written over.
-  pub copied-over : (i : ℕ) → length b ≤ i → i ≤ length b → copied i ≡ take (length b) a
-  copied-over i h k =
+  pub copied_over : (i : ℕ) → length b ≤ i → i ≤ length b → copied i ≡ take (length b) a
+  copied_over i h k =
       let e : i ≡ length b = omega arith in
       rw (e, drop_of_length-le b {i = length b} (omega arith)) (append-nil (take (length b) a))

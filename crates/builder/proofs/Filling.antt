@@ -9,9 +9,9 @@ use lib.ListN.{length, get_or, take, drop, set, length-append, length-drop, drop
 use lib.Seq.{length-take-le, drop-append-le, take-append-add, take_at}
 use borrow.Rule.Slice.PartMut.{put_mid}
 use Rattle.program.specs.Command.{width_at}
-use Rattle.builder.specs.Build.{bytesIn, endsIn, bytes_of, listBytes}
+use Rattle.builder.specs.Build.{bytes_in, ends_in, bytes_of, list_bytes}
 use Rattle.builder.specs.Filled.{capped, Counted, Filled}
-use Rattle.builder.proofs.Entries.{bytes-long, bytes_next, ends_next}
+use Rattle.builder.proofs.Entries.{bytes_long, bytes_next, ends_next}
 
 -- The bytes of the first i entries are written, `at` with byte 0, and so many ENDs are counted.
 pub record Filling (entries : List (List ℕ)) (out : List ℕ) (at ends i : ℕ) : Type 0 where
@@ -20,14 +20,14 @@ pub record Filling (entries : List (List ℕ)) (out : List ℕ) (at ends i : ℕ
   pub some : 1 ≤ at
   pub room : at ≤ 2048
   pub few : ends ≤ 17
-  pub counted : capped (ends + endsIn (drop i entries)) ≡ capped (endsIn entries)
+  pub counted : capped (ends + ends_in (drop i entries)) ≡ capped (ends_in entries)
   pub written : drop 1 (take at out) ++ bytes_of (drop i entries) ≡ bytes_of entries
   pub five : (j : ℕ) → j < i → length (get_or entries j []) ≡ 5
 
 -- None is written.
-pub filling-none : (entries : List (List ℕ)) (out : List ℕ) → length out ≡ 2048 → Filling entries out 1 0 0
-filling-none entries [] h = absurd (let y : ⊥ = omega arith in y)
-filling-none entries (x ∷ out) h = record {
+pub filling_none : (entries : List (List ℕ)) (out : List ℕ) → length out ≡ 2048 → Filling entries out 1 0 0
+filling_none entries [] h = absurd (let y : ⊥ = omega arith in y)
+filling_none entries (x ∷ out) h = record {
   within = omega arith;
   full = h;
   some = omega arith;
@@ -46,29 +46,29 @@ first (y ∷ out) (suc at) x h k = refl
 
 module _ {entries : List (List ℕ)} {out : List ℕ} {at ends i : ℕ} (f : Filling entries out at ends i) where
   -- The bytes that are written and those that are left.
-  filled-long : at + length (bytes_of (drop i entries)) ≡ 1 + length (bytes_of entries)
-  filled-long =
+  filled_long : at + length (bytes_of (drop i entries)) ≡ 1 + length (bytes_of entries)
+  filled_long =
       let e = rw (length-append, length-drop, length-take-le at out (omega (arith, f.full, f.room))) at (ap length f.written) in
       omega (arith, f.some)
 
   module _ (h : i < length entries) (whole : length (get_or entries i []) ≡ 5) {size : ℕ} (w : size ≡ width_at (get_or (get_or entries i []) 0 0)) where
-    next-long : length (bytesIn (get_or entries i [])) ≡ size
-    next-long = bytes-long (get_or entries i []) whole ∙ sym w
+    next_long : length (bytes_in (get_or entries i [])) ≡ size
+    next_long = bytes_long (get_or entries i []) whole ∙ sym w
 
     -- The next entry has no room.
-    pub filling-over : 2048 < at + size → Filled entries out 0
-    unfolding listBytes
-    filling-over over =
-        let e = filled-long in
-        let b = ap length (bytes_next entries i h) ∙ length-append (bytesIn (get_or entries i [])) (bytes_of (drop (i + 1) entries)) in
-        let l = next-long in
+    pub filling_over : 2048 < at + size → Filled entries out 0
+    unfolding list_bytes
+    filling_over over =
+        let e = filled_long in
+        let b = ap length (bytes_next entries i h) ∙ length-append (bytes_in (get_or entries i [])) (bytes_of (drop (i + 1) entries)) in
+        let l = next_long in
         record { over = λ _. refl; fits = λ few. absurd (let y : ⊥ = omega arith in y) }
 
     -- The next entry is written.
-    pub filling-more : {e : List ℕ} {now : ℕ} → at + size ≤ 2048 → e ≡ take size (get_or entries i []) → Counted ends (get_or (get_or entries i []) 0 0) now
+    pub filling_more : {e : List ℕ} {now : ℕ} → at + size ≤ 2048 → e ≡ take size (get_or entries i []) → Counted ends (get_or (get_or entries i []) 0 0) now
         → Filling entries (put_mid at (at + size - at) out e) (at + size) now (i + 1)
-    unfolding Counted bytesIn
-    filling-more {e} {now} room v n = record {
+    unfolding Counted bytes_in
+    filling_more {e} {now} room v n = record {
       within = omega arith;
       full = simp (length-append, length-drop, before, long, add-sub_cancel_left) (omega (arith, f.full));
       some = omega (arith, f.some);
@@ -79,11 +79,11 @@ module _ {entries : List (List ℕ)} {out : List ℕ} {at ends i : ℕ} (f : Fil
       five = each;
     }
       where
-        here : e ≡ bytesIn (get_or entries i [])
+        here : e ≡ bytes_in (get_or entries i [])
         here = v ∙ ap (λ (k : ℕ). take k (get_or entries i [])) w
 
         long : length e ≡ size
-        long = ap length here ∙ next-long
+        long = ap length here ∙ next_long
 
         before : length (take at out) ≡ at
         before = length-take-le at out (omega (arith, f.full, f.room))
@@ -102,13 +102,13 @@ module _ {entries : List (List ℕ)} {out : List ℕ} {at ends i : ℕ} (f : Fil
             by (no m) = let q : j ≡ i = omega arith in rw q whole
 
   -- All entries are written.
-  pub filling-done : length entries ≤ i → Filled entries (set out 0 ends) at
-  unfolding listBytes bytes_of endsIn
-  filling-done h = record {
-    over = λ long. absurd (let y : ⊥ = omega (arith, filled-long, none-long, f.room) in y);
+  pub filling_done : length entries ≤ i → Filled entries (set out 0 ends) at
+  unfolding list_bytes bytes_of ends_in
+  filling_done h = record {
+    over = λ long. absurd (let y : ⊥ = omega (arith, filled_long, none_long, f.room) in y);
     fits = λ few. record {
-      long = omega (arith, filled-long, none-long);
-      bytes = first out at ends (omega (arith, f.full)) f.some ∙ rw (ends-are, ← bytes-are);
+      long = omega (arith, filled_long, none_long);
+      bytes = first out at ends (omega (arith, f.full)) f.some ∙ rw (ends_are, ← bytes_are);
       five = λ j l. f.five j (omega arith);
     };
   }
@@ -116,11 +116,11 @@ module _ {entries : List (List ℕ)} {out : List ℕ} {at ends i : ℕ} (f : Fil
       none : drop i entries ≡ []
       none = drop_of_length-le entries h
 
-      none-long : length (bytes_of (drop i entries)) ≡ 0
-      none-long = rw none
+      none_long : length (bytes_of (drop i entries)) ≡ 0
+      none_long = rw none
 
-      bytes-are : drop 1 (take at out) ≡ bytes_of entries
-      bytes-are = sym (append-nil (drop 1 (take at out))) ∙ rw none at f.written
+      bytes_are : drop 1 (take at out) ≡ bytes_of entries
+      bytes_are = sym (append-nil (drop 1 (take at out))) ∙ rw none at f.written
 
-      ends-are : ends ≡ capped (endsIn entries)
-      ends-are = let e = rw none at f.counted in omega (arith, f.few)
+      ends_are : ends ≡ capped (ends_in entries)
+      ends_are = let e = rw none at f.counted in omega (arith, f.few)

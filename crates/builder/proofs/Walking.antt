@@ -7,13 +7,13 @@ use mathlib.Core.Path.{◌≡◌, refl, sym, ◌∙◌}
 use lib.ListN.{length, get_or, drop, length-drop}
 use lib.Seq.{drop-drop}
 use Rattle.program.specs.Command.{width_at, width}
-use Rattle.program.specs.Reading.{read, bare, commandsOf}
+use Rattle.program.specs.Reading.{read, bare, commands_of}
 use Rattle.program.specs.Scan.{scan}
 use Rattle.program.specs.declared.command.Command.{Command}
 use Rattle.program.specs.declared.command.Command.TheVariants.{End}
 use Rattle.program.specs.declared.reading.Reading.TheVariants.{Whole}
 use Rattle.program.proofs.Basic.{apart}
-use Rattle.program.proofs.RangeLaws.{whole-bare}
+use Rattle.program.proofs.RangeLaws.{whole_bare}
 use Rattle.program.proofs.ShapeReading.{read_first, known}
 use Rattle.program.proofs.ShapeListed.{Listed, over, next, passes}
 
@@ -21,14 +21,14 @@ use Rattle.program.proofs.ShapeListed.{Listed, over, next, passes}
 pub record Walking (t : List ℕ) (at i : ℕ) : Type 0 where
   body : ℕ
   left : ℕ
-  listed : Listed (get_or t 0 0) body left (drop at t) (drop i (commandsOf t))
+  listed : Listed (get_or t 0 0) body left (drop at t) (drop i (commands_of t))
   pub inside : at ≤ length t
   pub some : i < at
-  pub within : i ≤ length (commandsOf t)
+  pub within : i ≤ length (commands_of t)
 
 -- Byte 0 is passed.
-pub walking-none : (t : List ℕ) → scan t ≡ 0 → Walking t 1 0
-walking-none t ok =
+pub walking_none : (t : List ℕ) → scan t ≡ 0 → Walking t 1 0
+walking_none t ok =
     let p = passes t ok in
     record {
       body = 0;
@@ -54,9 +54,9 @@ first (y ∷ l) (suc i) d x rest e =
     record { lower = omega (arith, f.lower); here = f.here; later = f.later }
 
 -- In no bytes there is no command,
-none-listed : {n i left : ℕ} {s : List ℕ} {cs : List Command} → Listed n i left s cs → length s ≡ 0 → length cs ≡ 0
-none-listed (over e) h = refl
-none-listed {s = s} (next inside own fits r) h = absurd (let k = known s own in let y : ⊥ = omega (arith, k.some, k.inside) in y)
+none_listed : {n i left : ℕ} {s : List ℕ} {cs : List Command} → Listed n i left s cs → length s ≡ 0 → length cs ≡ 0
+none_listed (over e) h = refl
+none_listed {s = s} (next inside own fits r) h = absurd (let k = known s own in let y : ⊥ = omega (arith, k.some, k.inside) in y)
 
 -- and in some there is a first.
 record Ahead (n : ℕ) (s : List ℕ) (cs : List Command) : Type 0 where
@@ -68,37 +68,37 @@ record Ahead (n : ℕ) (s : List ℕ) (cs : List Command) : Type 0 where
   own : read s ≡ Whole command (width command)
   later : Listed n body left (drop (width command) s) rest
 
-first-listed : {n i left : ℕ} {s : List ℕ} {cs : List Command} → Listed n i left s cs → 0 < length s → Ahead n s cs
-first-listed (over e) h = absurd (let y : ⊥ = omega arith in y)
-first-listed (next {c = c} {cs = cs} inside own fits r) h = record { command = c; rest = cs; body = _; left = _; same = refl; own = own; later = r }
+first_listed : {n i left : ℕ} {s : List ℕ} {cs : List Command} → Listed n i left s cs → 0 < length s → Ahead n s cs
+first_listed (over e) h = absurd (let y : ⊥ = omega arith in y)
+first_listed (next {c = c} {cs = cs} inside own fits r) h = record { command = c; rest = cs; body = _; left = _; same = refl; own = own; later = r }
 
 module _ {t : List ℕ} {at i : ℕ} (w : Walking t at i) where
   -- No command follows.
-  pub walking-done : length t ≤ at → length (commandsOf t) ≤ i
-  walking-done h =
-      let e = rw length-drop at (none-listed w.listed (rw length-drop (omega arith))) in
+  pub walking_done : length t ≤ at → length (commands_of t) ≤ i
+  walking_done h =
+      let e = rw length-drop at (none_listed w.listed (rw length-drop (omega arith))) in
       omega arith
 
   -- A command follows.
   module _ (h : at < length t) where
-    ahead : Ahead (get_or t 0 0) (drop at t) (drop i (commandsOf t))
-    ahead = first-listed w.listed (rw length-drop (omega arith))
+    ahead : Ahead (get_or t 0 0) (drop at t) (drop i (commands_of t))
+    ahead = first_listed w.listed (rw length-drop (omega arith))
 
-    its : First (commandsOf t) i End ahead.command ahead.rest
-    its = first (commandsOf t) i End ahead.command ahead.rest ahead.same
+    its : First (commands_of t) i End ahead.command ahead.rest
+    its = first (commands_of t) i End ahead.command ahead.rest ahead.same
 
-    pub walking-below : i < length (commandsOf t)
-    walking-below = its.lower
+    pub walking_below : i < length (commands_of t)
+    walking_below = its.lower
 
-    pub walking_here : bare (drop at t) ≡ get_or (commandsOf t) i End
-    walking_here = whole-bare (drop at t) ahead.own ∙ sym its.here
+    pub walking_here : bare (drop at t) ≡ get_or (commands_of t) i End
+    walking_here = whole_bare (drop at t) ahead.own ∙ sym its.here
 
     module _ {size : ℕ} (e : size ≡ width_at (get_or t at 0)) where
       wide : size ≡ width ahead.command
       wide = e ∙ read_first t at ahead.own
 
-      pub walking-fits : (0 < size) × (at + size ≤ length t)
-      walking-fits =
+      pub walking_fits : (0 < size) × (at + size ≤ length t)
+      walking_fits =
           let k = known (drop at t) ahead.own in
           let l = rw length-drop at k.inside in
           (omega (arith, wide, k.some), omega (arith, wide, w.inside))
@@ -108,7 +108,7 @@ module _ {t : List ℕ} {at i : ℕ} (w : Walking t at i) where
         body = ahead.body;
         left = ahead.left;
         listed = rw (wide, add-one, its.later, ← drop-drop (width ahead.command) at t) ahead.later;
-        inside = walking-fits.1;
-        some = omega (arith, w.some, walking-fits.0);
+        inside = walking_fits.1;
+        some = omega (arith, w.some, walking_fits.0);
         within = omega (arith, its.lower);
       }

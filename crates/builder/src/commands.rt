@@ -1,8 +1,8 @@
 // The commands of a table as entries. The table was accepted, so what stands in it is not tried again.
 ghost use Rattle.std.specs.Prelude.{◌≡◌, ◌++◌, map, ◌≤◌, length, drop};
-ghost use Rattle.program.specs.Reading.{commandsOf};
+ghost use Rattle.program.specs.Reading.{commands_of};
 ghost use Rattle.program.specs.Scan.{scan};
-ghost use Rattle.builder.specs.Build.{entryOf};
+ghost use Rattle.builder.specs.Build.{entry_of};
 
 use super::entry::entry_of;
 use program::command::width_at;
@@ -11,7 +11,7 @@ use program::reading::known;
 // How many commands a table has.
 pub fn count(table: &[u8]) -> usize
     requires { scan table.now ≡ 0 }
-    ensures { result ≡ length (commandsOf table.now) }
+    ensures { result ≡ length (commands_of table.now) }
 {
     let mut at: usize = 1;
     let mut n: usize = 0;
@@ -24,8 +24,8 @@ pub fn count(table: &[u8]) -> usize
 
 // The entry of each command, from the first entry on.
 pub fn put(table: &[u8], entries: &mut [[u8; 5]])
-    requires { (scan table.now ≡ 0) × (length (commandsOf table.now) ≤ length entries.old) }
-    ensures { entries.new ≡ map entryOf (commandsOf table.now) ++ drop (length (commandsOf table.now)) entries.old }
+    requires { (scan table.now ≡ 0) × (length (commands_of table.now) ≤ length entries.old) }
+    ensures { entries.new ≡ map entry_of (commands_of table.now) ++ drop (length (commands_of table.now)) entries.old }
 {
     let mut at: usize = 1;
     let mut i: usize = 0;

@@ -2,8 +2,8 @@
 // A list is a slice of entries of five bytes: the command byte, its operand bytes in the order of the table, and bytes that the command lacks, which
 // are not looked at. Each call answers the documents' number.
 ghost use Rattle.std.specs.Prelude.{◌≡◌, map, length, take};
-ghost use Rattle.program.specs.Reading.{commandsOf};
-ghost use Rattle.builder.specs.Build.{commandIn, listBytes, builtNumber, builtLength, builtBytes, listedNumber, listedCount, listedEntries};
+ghost use Rattle.program.specs.Reading.{commands_of};
+ghost use Rattle.builder.specs.Build.{command_in, list_bytes, built_number, built_length, built_bytes, listed_number, listed_count, listed_entries};
 
 use program::table::read_table;
 
@@ -28,10 +28,10 @@ pub struct Listed {
 // The table of a list of commands into a lent buffer. A call that is turned away leaves the buffer, and bytes past the table stay as they were.
 // Reading the table yields the list.
 pub fn build(entries: &[[u8; 5]], table: &mut [u8]) -> Built
-    ensures number_value { result.number ≡ builtNumber entries.now (length table.old) }
-    ensures length_value { result.length ≡ builtLength entries.now (length table.old) }
-    ensures table_after { table.new ≡ builtBytes entries.now table.old }
-    ensures table_after_2 { result.number ≡ 0 → commandsOf (take result.length table.new) ≡ map commandIn entries.now }
+    ensures number_value { result.number ≡ built_number entries.now (length table.old) }
+    ensures length_value { result.length ≡ built_length entries.now (length table.old) }
+    ensures table_after { table.new ≡ built_bytes entries.now table.old }
+    ensures table_after_2 { result.number ≡ 0 → commands_of (take result.length table.new) ≡ map command_in entries.now }
 {
     let mut made = [0u8; 2048];
     let length = bytes::fill(entries, &mut made);
@@ -61,10 +61,10 @@ pub fn build(entries: &[[u8; 5]], table: &mut [u8]) -> Built
 // The commands of a table into lent entries, 0 in the bytes that a command lacks. A call that is turned away leaves the entries, and those past the
 // last command stay as they were. Building from them yields the table.
 pub fn list(table: &[u8], entries: &mut [[u8; 5]]) -> Listed
-    ensures number_value { result.number ≡ listedNumber table.now (length entries.old) }
-    ensures count_value { result.count ≡ listedCount table.now (length entries.old) }
-    ensures entries_after { entries.new ≡ listedEntries table.now entries.old }
-    ensures entries_after_2 { result.number ≡ 0 → listBytes (take result.count entries.new) ≡ table.now }
+    ensures number_value { result.number ≡ listed_number table.now (length entries.old) }
+    ensures count_value { result.count ≡ listed_count table.now (length entries.old) }
+    ensures entries_after { entries.new ≡ listed_entries table.now entries.old }
+    ensures entries_after_2 { result.number ≡ 0 → list_bytes (take result.count entries.new) ≡ table.now }
 {
     let read = read_table(table);
     if read.number != 0 {

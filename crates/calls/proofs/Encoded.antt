@@ -4,36 +4,36 @@ use mathlib.Core.Path.{◌≡◌}
 use mathlib.Core.List.{List}
 use mathlib.Core.Bool.{true}
 use Rattle.rules.specs.declared.state.State.{State}
-use Rattle.rules.specs.State.{answerNumber}
+use Rattle.rules.specs.State.{answer_number}
 use Rattle.rules.specs.Steps.{base, step, ready}
-use Rattle.encoding.specs.Encode.{encodeState}
+use Rattle.encoding.specs.Encode.{encode_state}
 use Rattle.encoding.specs.Decode.{encodes, state_of}
-use Rattle.encoding.proofs.StateLaws.{encodeState-encodes, encodeState-bytes, stateOf-encodeState}
+use Rattle.encoding.proofs.StateLaws.{encode_state_encodes, encode_state_bytes, state_of_encode_state}
 use Rattle.fits.proofs.Fitting.{Fitting}
-use Rattle.calls.specs.Calls.{stepNumber, stepBytes, readyNumber, readySet}
-use Rattle.calls.proofs.Stepping.{stepBytes-encode}
+use Rattle.calls.specs.Calls.{step_number, step_bytes, ready_number, ready_set}
+use Rattle.calls.proofs.Stepping.{step_bytes_encode}
 
 module _ (t : List ℕ) (s : State) (f : Fitting s) where
   -- The bytes encode a state, and it is this one.
-  pub whole_of : encodes (encodeState s) ≡ true
-  whole_of = encodeState-encodes s f.sized f.fits
+  pub whole_of : encodes (encode_state s) ≡ true
+  whole_of = encode_state_encodes s f.sized f.fits
 
-  pub back_to : state_of (encodeState s) ≡ s
-  back_to = stateOf-encodeState s f.sized f.fits
+  pub back_to : state_of (encode_state s) ≡ s
+  back_to = state_of_encode_state s f.sized f.fits
 
   -- A step.
-  pub step-number : (i : ℕ) → stepNumber t (encodeState s) i ≡ answerNumber (step base t s i).answer
-  unfolding stepNumber
-  step-number i = rw (whole_of, back_to)
+  pub step_number_lem : (i : ℕ) → step_number t (encode_state s) i ≡ answer_number (step base t s i).answer
+  unfolding step_number
+  step_number_lem i = rw (whole_of, back_to)
 
-  pub step-bytes : (i : ℕ) → stepBytes t (encodeState s) i ≡ encodeState (step base t s i).state
-  step-bytes i = rw back_to at (stepBytes-encode t (encodeState s) i (encodeState-bytes s f.sized f.fits) whole_of)
+  pub step_bytes_lem : (i : ℕ) → step_bytes t (encode_state s) i ≡ encode_state (step base t s i).state
+  step_bytes_lem i = rw back_to at (step_bytes_encode t (encode_state s) i (encode_state_bytes s f.sized f.fits) whole_of)
 
   -- The ready set.
-  pub ready-number : readyNumber t (encodeState s) ≡ (ready base t s).number
-  unfolding readyNumber
-  ready-number = rw (whole_of, back_to)
+  pub ready_number_lem : ready_number t (encode_state s) ≡ (ready base t s).number
+  unfolding ready_number
+  ready_number_lem = rw (whole_of, back_to)
 
-  pub ready-set : readySet t (encodeState s) ≡ (ready base t s).set
-  unfolding readySet
-  ready-set = rw (whole_of, back_to)
+  pub ready_set_lem : ready_set t (encode_state s) ≡ (ready base t s).set
+  unfolding ready_set
+  ready_set_lem = rw (whole_of, back_to)

@@ -6,29 +6,29 @@ use mathlib.Core.Bool.{Bool, true, false, cond}
 use lib.ListN.{length}
 use lib.Dec.{eqb}
 use borrow.Author.Tests.{eq-eqb, ne_eqb}
-use Rattle.program.specs.Table.{workLimit, number_of}
-use Rattle.rules.specs.State.{zeroState}
-use Rattle.rules.specs.Steps.{startState, startWith, start}
-use Rattle.encoding.specs.Encode.{encodeState}
-use Rattle.calls.specs.Calls.{tableFirst, lengthNumber, fitsState, startNumber, startBytes}
+use Rattle.program.specs.Table.{work_limit, number_of}
+use Rattle.rules.specs.State.{zero_state}
+use Rattle.rules.specs.Steps.{start_state, start_with, start}
+use Rattle.encoding.specs.Encode.{encode_state}
+use Rattle.calls.specs.Calls.{table_first, length_number, fits_state, start_number, start_bytes}
 
 -- The table is turned down: the state of zeros, where there is room.
-pub start-refused : (t b : List ℕ) {n : ℕ} {c : List ℕ} → n ≡ number_of workLimit t → (n ≡ 0 → ⊥) → c ≡ cond (eqb (length b) 13776) (encodeState zeroState) b
-    → (n ≡ startNumber t b) × (c ≡ startBytes t b)
-unfolding startNumber startBytes fitsState tableFirst start startWith
-start-refused t b {n} e h f = let x = ne_eqb n 0 h in (rw (sym e, x) (go (eqb (length b) 13776)), rw (f, sym e, x))
+pub start_refused : (t b : List ℕ) {n : ℕ} {c : List ℕ} → n ≡ number_of work_limit t → (n ≡ 0 → ⊥) → c ≡ cond (eqb (length b) 13776) (encode_state zero_state) b
+    → (n ≡ start_number t b) × (c ≡ start_bytes t b)
+unfolding start_number start_bytes fits_state table_first start start_with
+start_refused t b {n} e h f = let x = ne_eqb n 0 h in (rw (sym e, x) (go (eqb (length b) 13776)), rw (f, sym e, x))
   where
     go : (x : Bool) → n ≡ cond x n n
     go true = refl
     go false = refl
 
-module _ (t b : List ℕ) (z : number_of workLimit t ≡ 0) where
+module _ (t b : List ℕ) (z : number_of work_limit t ≡ 0) where
   -- The buffer has another length.
-  pub start-length : (length b ≡ 13776 → ⊥) → (lengthNumber ≡ startNumber t b) × (b ≡ startBytes t b)
-  unfolding startNumber startBytes fitsState tableFirst
-  start-length h = let q = ne_eqb (length b) 13776 h in (rw (q, z), rw q)
+  pub start_length : (length b ≡ 13776 → ⊥) → (length_number ≡ start_number t b) × (b ≡ start_bytes t b)
+  unfolding start_number start_bytes fits_state table_first
+  start_length h = let q = ne_eqb (length b) 13776 h in (rw (q, z), rw q)
 
   -- The start state.
-  pub start-done : {c : List ℕ} → length b ≡ 13776 → c ≡ cond (eqb (length b) 13776) (encodeState startState) b → (0 ≡ startNumber t b) × (c ≡ startBytes t b)
-  unfolding startNumber startBytes fitsState start startWith
-  start-done h f = let q = eq-eqb (length b) 13776 h in (rw (q, z), f ∙ rw (q, z))
+  pub start_done : {c : List ℕ} → length b ≡ 13776 → c ≡ cond (eqb (length b) 13776) (encode_state start_state) b → (0 ≡ start_number t b) × (c ≡ start_bytes t b)
+  unfolding start_number start_bytes fits_state start start_with
+  start_done h f = let q = eq-eqb (length b) 13776 h in (rw (q, z), f ∙ rw (q, z))

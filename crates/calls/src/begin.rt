@@ -1,8 +1,8 @@
 // The first states, written in place.
 ghost use Rattle.std.specs.Prelude.{◌≡◌, cond, eqb, length};
-ghost use Rattle.rules.specs.State.{zeroState};
-ghost use Rattle.rules.specs.Steps.{startState};
-ghost use Rattle.encoding.specs.Encode.{encodeState};
+ghost use Rattle.rules.specs.State.{zero_state};
+ghost use Rattle.rules.specs.Steps.{start_state};
+ghost use Rattle.encoding.specs.Encode.{encode_state};
 
 use encoding::numbers::put_zeros;
 use fields::activities::put_depth;
@@ -10,7 +10,7 @@ use fields::counts::put_activities;
 
 // The state of zeros: the version, and 0 everywhere else. A buffer of another length stays as it was.
 pub fn put_none(state: &mut [u8])
-    ensures { state.new ≡ cond (eqb (length state.old) 13776) (encodeState zeroState) state.old }
+    ensures { state.new ≡ cond (eqb (length state.old) 13776) (encode_state zero_state) state.old }
 {
     if state.len() == 13776 {
         put_zeros(state);
@@ -20,7 +20,7 @@ pub fn put_none(state: &mut [u8])
 
 // The start state: main is spawned and has one body.
 pub fn put_start(state: &mut [u8])
-    ensures { state.new ≡ cond (eqb (length state.old) 13776) (encodeState startState) state.old }
+    ensures { state.new ≡ cond (eqb (length state.old) 13776) (encode_state start_state) state.old }
 {
     if state.len() == 13776 {
         put_none(state);

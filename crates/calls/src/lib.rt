@@ -1,7 +1,7 @@
 // The machine's calls over lent bytes: a state is a buffer of 13,776 bytes, laid out as in docs/STATE-BYTES.md, and each call works in it.
 // The table's number 1 to 12 comes first; bytes that encode no state give 13; then a buffer of another length than the call needs gives 255.
 ghost use Rattle.std.specs.Prelude.{◌≡◌, length};
-ghost use Rattle.calls.specs.Calls.{startNumber, startBytes, stepNumber, stepBytes, readyNumber, readySet, awaitsNumber, awaitsCount, sheetNumber, sheetBytes, runNumber, runAnswers, runBytes, traceCounts};
+ghost use Rattle.calls.specs.Calls.{start_number, start_bytes, step_number, step_bytes, ready_number, ready_set, awaits_number, awaits_count, sheet_number, sheet_bytes, run_number, run_answers, run_bytes, trace_counts};
 
 use begin::{put_none, put_start};
 use program::table::read_table;
@@ -19,7 +19,7 @@ const LENGTH: u8 = 255;
 
 // The start state of a table into the buffer, or the state of zeros for a table that is turned down.
 pub fn start(table: &[u8], state: &mut [u8]) -> u8
-    ensures { (result ≡ startNumber table.now state.old) × (state.new ≡ startBytes table.now state.old) }
+    ensures { (result ≡ start_number table.now state.old) × (state.new ≡ start_bytes table.now state.old) }
 {
     let read = read_table(table);
     let number = read.number;
@@ -36,7 +36,7 @@ pub fn start(table: &[u8], state: &mut [u8]) -> u8
 
 // A step of the state in the buffer, by an activity that the host picks. A refused step leaves the bytes.
 pub fn step(table: &[u8], state: &mut [u8], activity: usize) -> u8
-    ensures { (result ≡ stepNumber table.now state.old activity) × (state.new ≡ stepBytes table.now state.old activity) }
+    ensures { (result ≡ step_number table.now state.old activity) × (state.new ≡ step_bytes table.now state.old activity) }
 {
     let checked = check_state(table, state);
     let number = checked.number;
@@ -52,7 +52,7 @@ pub fn step(table: &[u8], state: &mut [u8], activity: usize) -> u8
 
 // Who can step, bit i for activity i. The set of a refused call is 0.
 pub fn ready(table: &[u8], state: &[u8], set: &mut u64) -> u8
-    ensures { (result ≡ readyNumber table.now state.now) × (set.new ≡ readySet table.now state.now) }
+    ensures { (result ≡ ready_number table.now state.now) × (set.new ≡ ready_set table.now state.now) }
 {
     let checked = check_state(table, state);
     let number = checked.number;
@@ -69,7 +69,7 @@ pub fn ready(table: &[u8], state: &[u8], set: &mut u64) -> u8
 
 // How many activities an activity waits for. The count of a refused call is 0.
 pub fn awaited(table: &[u8], state: &[u8], activity: usize, count: &mut u8) -> u8
-    ensures { (result ≡ awaitsNumber table.now state.now activity) × (count.new ≡ awaitsCount table.now state.now activity) }
+    ensures { (result ≡ awaits_number table.now state.now activity) × (count.new ≡ awaits_count table.now state.now activity) }
 {
     let checked = check_state(table, state);
     let number = checked.number;
@@ -90,7 +90,7 @@ pub fn awaited(table: &[u8], state: &[u8], activity: usize, count: &mut u8) -> u
 
 // The standing sheet of the state in the buffer, 1,024 bytes, row by row. The sheet of a refused call is zeros; another room for it stays as it was.
 pub fn registrations(table: &[u8], state: &[u8], sheet: &mut [u8]) -> u8
-    ensures { (result ≡ sheetNumber table.now state.now sheet.old) × (sheet.new ≡ sheetBytes table.now state.now sheet.old) }
+    ensures { (result ≡ sheet_number table.now state.now sheet.old) × (sheet.new ≡ sheet_bytes table.now state.now sheet.old) }
 {
     let checked = check_state(table, state);
     let number = checked.number;
@@ -107,9 +107,9 @@ pub fn registrations(table: &[u8], state: &[u8], sheet: &mut [u8]) -> u8
 
 // A whole run from the start state: an answer for each step of the order, and the state after it. A refused run leaves both buffers as they were.
 pub fn run(table: &[u8], order: &[u8], answers: &mut [u8], state: &mut [u8]) -> u8
-    ensures value { result ≡ runNumber table.now order.now (length answers.old) state.old }
-    ensures answers_after { answers.new ≡ runAnswers table.now order.now answers.old state.old }
-    ensures state_after { state.new ≡ runBytes table.now order.now (length answers.old) state.old }
+    ensures value { result ≡ run_number table.now order.now (length answers.old) state.old }
+    ensures answers_after { answers.new ≡ run_answers table.now order.now answers.old state.old }
+    ensures state_after { state.new ≡ run_bytes table.now order.now (length answers.old) state.old }
 {
     let mut counts = [0u8; 1];
     trace(table, order, answers, &mut counts, state)
@@ -123,10 +123,10 @@ pub fn trace(
     counts: &mut [u8],
     state: &mut [u8],
 ) -> u8
-    ensures value { result ≡ runNumber table.now order.now (length answers.old) state.old }
-    ensures answers_after { answers.new ≡ runAnswers table.now order.now answers.old state.old }
-    ensures counts_after { counts.new ≡ traceCounts table.now order.now (length answers.old) counts.old state.old }
-    ensures state_after { state.new ≡ runBytes table.now order.now (length answers.old) state.old }
+    ensures value { result ≡ run_number table.now order.now (length answers.old) state.old }
+    ensures answers_after { answers.new ≡ run_answers table.now order.now answers.old state.old }
+    ensures counts_after { counts.new ≡ trace_counts table.now order.now (length answers.old) counts.old state.old }
+    ensures state_after { state.new ≡ run_bytes table.now order.now (length answers.old) state.old }
 {
     let read = read_table(table);
     let number = read.number;

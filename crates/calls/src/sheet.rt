@@ -1,6 +1,6 @@
 // The standing sheet as bytes.
 ghost use Rattle.std.specs.Prelude.{◌≡◌, cond, length, replicate};
-ghost use Rattle.calls.specs.Calls.{rowBytes, fitsSheet};
+ghost use Rattle.calls.specs.Calls.{row_bytes, fits_sheet};
 ghost use Rattle.calls.specs.Sheet.{Tells};
 
 use encoding::numbers::put_zeros;
@@ -9,7 +9,7 @@ use turns::sheet::sheet_row;
 // The bytes of a row, by clock number.
 fn put_row(row: [u8; 16], out: &mut [u8])
     requires { length out.old ≡ 16 }
-    ensures { out.new ≡ rowBytes row }
+    ensures { out.new ≡ row_bytes row }
 {
     let mut i = 0;
     while i < 16 {
@@ -34,7 +34,7 @@ pub fn put_rows(state: &[u8], out: &mut [u8])
 
 // A sheet of zeros; a buffer of another length stays as it was.
 pub fn put_none(out: &mut [u8])
-    ensures { out.new ≡ cond (fitsSheet out.old) (replicate 1024 0) out.old }
+    ensures { out.new ≡ cond (fits_sheet out.old) (replicate 1024 0) out.old }
 {
     if out.len() == 1024 {
         put_zeros(out);

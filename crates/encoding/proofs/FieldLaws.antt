@@ -7,9 +7,9 @@ use mathlib.Core.Path.{◌≡◌, refl, sym, ap, ◌∙◌}
 use lib.ListN.{length, replicate, take, drop, set, length-append, length-drop, length-set}
 use lib.Seq.{take_at, take-suc, take-suc-set, take_all, take-add, length-take-le, take-append-add}
 use borrow.Rule.Slice.PartMut.{put_mid}
-use Rattle.encoding.specs.Bytes.{bytes_of, number_of, part, byte_at, allZero}
+use Rattle.encoding.specs.Bytes.{bytes_of, number_of, part, byte_at, all_zero}
 use Rattle.program.proofs.Basic.{Bytes, bytes_take, bytes_drop}
-use Rattle.encoding.proofs.NumberLaws.{bytes-of-number, zeros}
+use Rattle.encoding.proofs.NumberLaws.{bytes_of_number, zeros}
 
 -- a part within the bytes is as long as asked for
 pub sized : (b : List ℕ) (at k m : ℕ) → m ≡ k → at + k ≤ length b → length (take m (drop at b)) ≡ k
@@ -31,8 +31,8 @@ pub store : {l p : List ℕ} {n at : ℕ} (v : ℕ) → Upto l n at p → at < n
 store {l} {p} {n} {at} v u h = record { full = length-set l at v ∙ u.full; done = rw (take-suc-set l at v (rw u.full h), u.done) }
 
 -- the same, where the byte is known by an equation
-pub store-as : {l p : List ℕ} {n at : ℕ} (v w : ℕ) → v ≡ w → Upto l n at p → at < n → Upto (set l at v) n (suc at) (p ++ (w ∷ []))
-store-as {l} {p} {n} {at} v w e u h = let s = store v u h in record { full = s.full; done = s.done ∙ rw e }
+pub store_as : {l p : List ℕ} {n at : ℕ} (v w : ℕ) → v ≡ w → Upto l n at p → at < n → Upto (set l at v) n (suc at) (p ++ (w ∷ []))
+store_as {l} {p} {n} {at} v w e u h = let s = store v u h in record { full = s.full; done = s.done ∙ rw e }
 
 -- a part is written behind them
 pub put : {l p : List ℕ} {n at : ℕ} (k m : ℕ) (e x : List ℕ) → Upto l n at p → at + k ≤ n → m ≡ k → length e ≡ length (take m (drop at l)) → e ≡ x → Upto (put_mid at m l e) n (at + k) (p ++ x)
@@ -73,10 +73,10 @@ pub part_bytes : (b : List ℕ) (at k : ℕ) → Bytes b → Bytes (part b at k)
 part_bytes b at k h = bytes_take k (drop at b) (bytes_drop at b h)
 
 -- a part of bytes is the bytes of its number
-pub number-part : (b : List ℕ) (at k : ℕ) → Bytes b → at + k ≤ length b → part b at k ≡ bytes_of k (number_of (part b at k))
-number-part b at k y h =
-    sym (bytes-of-number (part b at k) (part_bytes b at k y)) ∙ ap (λ (m : ℕ). bytes_of m (number_of (part b at k))) (sized b at k k refl h)
+pub number_part : (b : List ℕ) (at k : ℕ) → Bytes b → at + k ≤ length b → part b at k ≡ bytes_of k (number_of (part b at k))
+number_part b at k y h =
+    sym (bytes_of_number (part b at k) (part_bytes b at k y)) ∙ ap (λ (m : ℕ). bytes_of m (number_of (part b at k))) (sized b at k k refl h)
 
 -- reserved bytes that pass are zeros
-pub zero-part : (b : List ℕ) (at k : ℕ) → allZero (part b at k) ≡ true → at + k ≤ length b → part b at k ≡ replicate k 0
-zero-part b at k e h = sym (zeros (part b at k) e) ∙ ap (λ (m : ℕ). replicate m 0) (sized b at k k refl h)
+pub zero_part : (b : List ℕ) (at k : ℕ) → all_zero (part b at k) ≡ true → at + k ≤ length b → part b at k ≡ replicate k 0
+zero_part b at k e h = sym (zeros (part b at k) e) ∙ ap (λ (m : ℕ). replicate m 0) (sized b at k k refl h)

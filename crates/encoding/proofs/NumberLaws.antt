@@ -11,56 +11,56 @@ use lib.Dec.{eqb}
 use lib.Seq.{take-suc, take-suc-set, take_all, drop-cons}
 use borrow.Author.Tests.{eqb-true}
 use Rattle.program.proofs.Basic.{Bytes}
-use Rattle.rules.proofs.Tests.{and-true}
-use Rattle.encoding.specs.Bytes.{bytes_of, number_of, allZero}
+use Rattle.rules.proofs.Tests.{and_true}
+use Rattle.encoding.specs.Bytes.{bytes_of, number_of, all_zero}
 
 -- NUMBERS
 
 -- some number has as many bytes
-pub power-positive : (k : ℕ) → 0 < 256 ^ k
-power-positive zero = omega arith
-power-positive (suc k) = rw pow-succ' (let h = power-positive k in omega arith)
+pub power_positive : (k : ℕ) → 0 < 256 ^ k
+power_positive zero = omega arith
+power_positive (suc k) = rw pow-succ' (let h = power_positive k in omega arith)
 
 -- as many bytes as asked for
-pub bytesOf-length : (k x : ℕ) → length (bytes_of k x) ≡ k
+pub bytes_of_length : (k x : ℕ) → length (bytes_of k x) ≡ k
 unfolding bytes_of
-bytesOf-length zero x = refl
-bytesOf-length (suc k) x = ap suc (bytesOf-length k (x / 256))
+bytes_of_length zero x = refl
+bytes_of_length (suc k) x = ap suc (bytes_of_length k (x / 256))
 
 -- each of them a byte
-pub bytesOf-bytes : (k x : ℕ) → Bytes (bytes_of k x)
+pub bytes_of_bytes : (k x : ℕ) → Bytes (bytes_of k x)
 unfolding bytes_of
-bytesOf-bytes zero x i = omega arith
-bytesOf-bytes (suc k) x zero = omega arith
-bytesOf-bytes (suc k) x (suc i) = bytesOf-bytes k (x / 256) i
+bytes_of_bytes zero x i = omega arith
+bytes_of_bytes (suc k) x zero = omega arith
+bytes_of_bytes (suc k) x (suc i) = bytes_of_bytes k (x / 256) i
 
 -- as many bytes as are read bound the number
-pub number-below : (k : ℕ) (b : List ℕ) → Bytes b → length b ≤ k → number_of b < 256 ^ k
+pub number_below : (k : ℕ) (b : List ℕ) → Bytes b → length b ≤ k → number_of b < 256 ^ k
 unfolding number_of
-number-below k [] h l = power-positive k
-number-below zero (x ∷ b) h l = absurd (not-suc-le-zero l)
-number-below (suc k) (x ∷ b) h l =
-    let r : number_of b < 256 ^ k = number-below k b (λ i. h (suc i)) (le_of_suc-le-suc l) in
+number_below k [] h l = power_positive k
+number_below zero (x ∷ b) h l = absurd (not-suc-le-zero l)
+number_below (suc k) (x ∷ b) h l =
+    let r : number_of b < 256 ^ k = number_below k b (λ i. h (suc i)) (le_of_suc-le-suc l) in
     let x<256 : x < 256 = h 0 in
     rw pow-succ' (omega arith)
 
 -- a number that fits comes back from its bytes
-pub number-of-bytes : (k x : ℕ) → x < 256 ^ k → number_of (bytes_of k x) ≡ x
+pub number_of_bytes : (k x : ℕ) → x < 256 ^ k → number_of (bytes_of k x) ≡ x
 unfolding bytes_of number_of
-number-of-bytes zero x h = omega arith
-number-of-bytes (suc k) x h =
+number_of_bytes zero x h = omega arith
+number_of_bytes (suc k) x h =
     let h' : x < 256 * 256 ^ k = rw pow-succ' at h in
-    rw (number-of-bytes k (x / 256) (omega arith)) (omega arith)
+    rw (number_of_bytes k (x / 256) (omega arith)) (omega arith)
 
 -- bytes come back from their number
-pub bytes-of-number : (b : List ℕ) → Bytes b → bytes_of (length b) (number_of b) ≡ b
+pub bytes_of_number : (b : List ℕ) → Bytes b → bytes_of (length b) (number_of b) ≡ b
 unfolding bytes_of number_of
-bytes-of-number [] h = refl
-bytes-of-number (x ∷ b) h =
+bytes_of_number [] h = refl
+bytes_of_number (x ∷ b) h =
     let x<256 : x < 256 = h 0 in
     let low : (x + 256 * number_of b) % 256 ≡ x = omega arith in
     let high : (x + 256 * number_of b) / 256 ≡ number_of b = omega arith in
-    rw (low, high, bytes-of-number b (λ i. h (suc i)))
+    rw (low, high, bytes_of_number b (λ i. h (suc i)))
 
 -- THE LOOPS
 
@@ -73,16 +73,16 @@ number_more b (suc i) p h =
     rw (e, drop-cons b i 0 h)
 
 -- one byte more is written
-pub bytes-more : (l : List ℕ) (i n x : ℕ) → i < length l → length l ≡ n → take (i + 1) (set l i (x % 256)) ++ bytes_of (n - (i + 1)) (x / 256) ≡ take i l ++ bytes_of (n - i) x
+pub bytes_more : (l : List ℕ) (i n x : ℕ) → i < length l → length l ≡ n → take (i + 1) (set l i (x % 256)) ++ bytes_of (n - (i + 1)) (x / 256) ≡ take i l ++ bytes_of (n - i) x
 unfolding bytes_of
-bytes-more l i n x h e =
+bytes_more l i n x h e =
     let q : n - i ≡ suc (n - (i + 1)) = omega arith in
     rw (q, add-one i, take-suc-set l i (x % 256), append_assoc)
 
 -- all bytes are written
-pub bytes-done : {r : List ℕ} (l : List ℕ) (i n x : ℕ) → length l ≤ i → length l ≡ n → take i l ++ bytes_of (n - i) x ≡ r → l ≡ r
+pub bytes_done : {r : List ℕ} (l : List ℕ) (i n x : ℕ) → length l ≤ i → length l ≡ n → take i l ++ bytes_of (n - i) x ≡ r → l ≡ r
 unfolding bytes_of
-bytes-done l i n x h e w =
+bytes_done l i n x h e w =
     let q : n - i ≡ 0 = omega arith in
     sym (append-nil l) ∙ rw (take_all i l h, q) at w
 
@@ -95,14 +95,14 @@ pub copy_done : (a b : List ℕ) (i n : ℕ) → take i a ≡ take i b → lengt
 copy_done a b i n e h k j = sym (take_all i a (omega arith)) ∙ e ∙ take_all i b (omega arith)
 
 -- one reserved byte more
-pub zeros-more : (b : List ℕ) (i : ℕ) → i < length b → allZero (drop i b) ≡ eqb (get_or b i 0) 0 && allZero (drop (i + 1) b)
-unfolding allZero
-zeros-more b i h = rw (add-one, drop-cons b i 0 h)
+pub zeros_more : (b : List ℕ) (i : ℕ) → i < length b → all_zero (drop i b) ≡ eqb (get_or b i 0) 0 && all_zero (drop (i + 1) b)
+unfolding all_zero
+zeros_more b i h = rw (add-one, drop-cons b i 0 h)
 
 -- reserved bytes are the zeros
-pub zeros : (b : List ℕ) → allZero b ≡ true → replicate (length b) 0 ≡ b
-unfolding allZero
+pub zeros : (b : List ℕ) → all_zero b ≡ true → replicate (length b) 0 ≡ b
+unfolding all_zero
 zeros [] e = refl
 zeros (x ∷ b) e =
-    let q = and-true (eqb x 0) (allZero b) e in
+    let q = and_true (eqb x 0) (all_zero b) e in
     rw (eqb-true x 0 q.0, zeros b q.1)

@@ -7,8 +7,8 @@ use mathlib.Core.Bool.{Bool, true}
 use mathlib.Core.Path.{◌≡◌, refl, sym, ◌∙◌}
 use lib.ListN.{length, get_or, take, drop, take-append-drop, length-append, length-drop}
 use lib.Seq.{take_at, drop_at, length-take-le}
-use Rattle.rules.proofs.Tests.{and-true}
-use Rattle.encoding.specs.Bytes.{encodeEach, parts_at, partsPass}
+use Rattle.rules.proofs.Tests.{and_true}
+use Rattle.encoding.specs.Bytes.{encode_each, parts_at, parts_pass}
 use Rattle.program.proofs.Basic.{Bytes, bytes_take, bytes_drop}
 
 -- a value comes back from its k bytes, which pass
@@ -22,16 +22,16 @@ pub record Back {A : Type 0} (e : A → List ℕ) (f : List ℕ → A) (p : List
   pub same : (b : List ℕ) → length b ≡ k → Bytes b → p b ≡ true → e (f b) ≡ b
 
 -- a list comes back from the bytes of its entries
-pub each-round : {A : Type 0} {e : A → List ℕ} {f : List ℕ → A} {p : List ℕ → Bool} {k : ℕ} (d : A) (l : List A)
+pub each_round : {A : Type 0} {e : A → List ℕ} {f : List ℕ → A} {p : List ℕ → Bool} {k : ℕ} (d : A) (l : List A)
     → ((i : ℕ) → i < length l → Round e f p k (get_or l i d))
-    → Round (encodeEach e) (parts_at k (length l) f) (partsPass k (length l) p) (length l * k) l
-unfolding encodeEach parts_at partsPass
-each-round {k = k} d [] h = record { size = sym (zero-mul k); back = refl; passes = refl }
-each-round {e = e} {f = f} {p = p} {k = k} d (x ∷ l) h =
+    → Round (encode_each e) (parts_at k (length l) f) (parts_pass k (length l) p) (length l * k) l
+unfolding encode_each parts_at parts_pass
+each_round {k = k} d [] h = record { size = sym (zero-mul k); back = refl; passes = refl }
+each_round {e = e} {f = f} {p = p} {k = k} d (x ∷ l) h =
     let r = h 0 (omega arith) in
-    let s = each-round {e = e} {f = f} {p = p} {k = k} d l (λ i j. h (suc i) (omega arith)) in
-    let t : take k (e x ++ encodeEach e l) ≡ e x = take_at (e x) (encodeEach e l) k r.size in
-    let u : drop k (e x ++ encodeEach e l) ≡ encodeEach e l = drop_at (e x) (encodeEach e l) k r.size in
+    let s = each_round {e = e} {f = f} {p = p} {k = k} d l (λ i j. h (suc i) (omega arith)) in
+    let t : take k (e x ++ encode_each e l) ≡ e x = take_at (e x) (encode_each e l) k r.size in
+    let u : drop k (e x ++ encode_each e l) ≡ encode_each e l = drop_at (e x) (encode_each e l) k r.size in
     record {
       size = rw (length-append, suc-mul, r.size, s.size, add_comm (length l * k) k);
       back = rw (t, u, r.back, s.back);
@@ -40,8 +40,8 @@ each-round {e = e} {f = f} {p = p} {k = k} d (x ∷ l) h =
 
 -- bytes come back from the entries of their parts
 pub each_back : {A : Type 0} {e : A → List ℕ} {f : List ℕ → A} {p : List ℕ → Bool} {k : ℕ} (n : ℕ) → Back e f p k
-    → Back (encodeEach e) (parts_at k n f) (partsPass k n p) (n * k)
-unfolding encodeEach parts_at partsPass
+    → Back (encode_each e) (parts_at k n f) (parts_pass k n p) (n * k)
+unfolding encode_each parts_at parts_pass
 each_back {e = e} {f = f} {p = p} {k = k} zero h = record { same = λ b l y t. none b (l ∙ zero-mul k) }
   where
     none : (b : List ℕ) → length b ≡ 0 → [] ≡ b
@@ -51,10 +51,10 @@ each_back {e = e} {f = f} {p = p} {k = k} (suc n) h =
     record {
       same =
           λ b l y t.
-          let q = and-true (p (take k b)) _ t in
+          let q = and_true (p (take k b)) _ t in
           let l' : length b ≡ n * k + k = l ∙ suc-mul n k in
           let one : e (f (take k b)) ≡ take k b = h.same (take k b) (length-take-le k b (omega arith)) (bytes_take k b y) q.0 in
-          let rest : encodeEach e (parts_at k n f (drop k b)) ≡ drop k b =
+          let rest : encode_each e (parts_at k n f (drop k b)) ≡ drop k b =
           (each_back {e = e} {f = f} {p = p} {k = k} n h).same (drop k b) (rw length-drop (omega arith)) (bytes_drop k b y) q.1
           in
           rw (one, rest) (take-append-drop k b);

@@ -8,58 +8,58 @@ use lib.Dec.{eqb}
 use borrow.Author.Tests.{eq-eqb, eqb-true}
 use Rattle.rules.specs.declared.state.State.{State}
 use Rattle.rules.proofs.Sized.{Sized}
-use Rattle.rules.proofs.Tests.{and-true}
-use Rattle.encoding.specs.Encode.{encodeState}
-use Rattle.encoding.specs.Decode.{state_of, fieldsEncode, encodes}
+use Rattle.rules.proofs.Tests.{and_true}
+use Rattle.encoding.specs.Encode.{encode_state}
+use Rattle.encoding.specs.Decode.{state_of, fields_encode, encodes}
 use Rattle.program.proofs.Basic.{Bytes}
 use Rattle.encoding.proofs.Fits.{FitsState}
-use Rattle.encoding.proofs.FromState.{state-round}
-use Rattle.encoding.proofs.FromBytes.{state-back}
-use Rattle.encoding.proofs.StateFits.{state-sized, state-fits}
-use Rattle.encoding.proofs.BytesFit.{state-bytes}
+use Rattle.encoding.proofs.FromState.{state_round}
+use Rattle.encoding.proofs.FromBytes.{state_back}
+use Rattle.encoding.proofs.StateFits.{state_sized, state_fits}
+use Rattle.encoding.proofs.BytesFit.{state_bytes}
 
 -- the bytes of a state are as many as the page says
-pub encodeState-length : (s : State) → Sized s → FitsState s → length (encodeState s) ≡ 13776
-encodeState-length s z h = (state-round z h).size
+pub encode_state_length : (s : State) → Sized s → FitsState s → length (encode_state s) ≡ 13776
+encode_state_length s z h = (state_round z h).size
 
 -- the bytes of a state encode a state
-pub encodeState-encodes : (s : State) → Sized s → FitsState s → encodes (encodeState s) ≡ true
+pub encode_state_encodes : (s : State) → Sized s → FitsState s → encodes (encode_state s) ≡ true
 unfolding encodes
-encodeState-encodes s z h = let r = state-round z h in rw (eq-eqb (length (encodeState s)) 13776 r.size) r.passes
+encode_state_encodes s z h = let r = state_round z h in rw (eq-eqb (length (encode_state s)) 13776 r.size) r.passes
 
 -- each is a byte
-pub encodeState-bytes : (s : State) → Sized s → FitsState s → Bytes (encodeState s)
-encodeState-bytes = state-bytes
+pub encode_state_bytes : (s : State) → Sized s → FitsState s → Bytes (encode_state s)
+encode_state_bytes = state_bytes
 
 -- and that state is the one they were made of
-pub stateOf-encodeState : (s : State) → Sized s → FitsState s → state_of (encodeState s) ≡ s
-stateOf-encodeState s z h = (state-round z h).back
+pub state_of_encode_state : (s : State) → Sized s → FitsState s → state_of (encode_state s) ≡ s
+state_of_encode_state s z h = (state_round z h).back
 
 -- bytes that encode a state are the bytes of that state
-pub encodeState-stateOf : (b : List ℕ) → Bytes b → encodes b ≡ true → encodeState (state_of b) ≡ b
+pub encode_state_state_of : (b : List ℕ) → Bytes b → encodes b ≡ true → encode_state (state_of b) ≡ b
 unfolding encodes
-encodeState-stateOf b y e =
-    let q = and-true (eqb (length b) 13776) (fieldsEncode b) e in
-    state-back.same b (eqb-true (length b) 13776 q.0) y q.1
+encode_state_state_of b y e =
+    let q = and_true (eqb (length b) 13776) (fields_encode b) e in
+    state_back.same b (eqb-true (length b) 13776 q.0) y q.1
 
 -- whose arrays have their sizes
-pub stateOf-sized : (b : List ℕ) → Bytes b → encodes b ≡ true → Sized (state_of b)
+pub state_of_sized : (b : List ℕ) → Bytes b → encodes b ≡ true → Sized (state_of b)
 unfolding encodes
-stateOf-sized b y e =
-    let q = and-true (eqb (length b) 13776) (fieldsEncode b) e in
-    state-sized b (eqb-true (length b) 13776 q.0) y q.1
+state_of_sized b y e =
+    let q = and_true (eqb (length b) 13776) (fields_encode b) e in
+    state_sized b (eqb-true (length b) 13776 q.0) y q.1
 
 -- and whose numbers fit their types
-pub stateOf-fits : (b : List ℕ) → Bytes b → encodes b ≡ true → FitsState (state_of b)
+pub state_of_fits : (b : List ℕ) → Bytes b → encodes b ≡ true → FitsState (state_of b)
 unfolding encodes
-stateOf-fits b y e =
-    let q = and-true (eqb (length b) 13776) (fieldsEncode b) e in
-    state-fits b (eqb-true (length b) 13776 q.0) y q.1
+state_of_fits b y e =
+    let q = and_true (eqb (length b) 13776) (fields_encode b) e in
+    state_fits b (eqb-true (length b) 13776 q.0) y q.1
 
 -- so two states with the same bytes are one,
-pub encodeState-injective : (s t : State) → Sized s → FitsState s → Sized t → FitsState t → encodeState s ≡ encodeState t → s ≡ t
-encodeState-injective s t z h z' h' e = sym (stateOf-encodeState s z h) ∙ ap state_of e ∙ stateOf-encodeState t z' h'
+pub encode_state_injective : (s t : State) → Sized s → FitsState s → Sized t → FitsState t → encode_state s ≡ encode_state t → s ≡ t
+encode_state_injective s t z h z' h' e = sym (state_of_encode_state s z h) ∙ ap state_of e ∙ state_of_encode_state t z' h'
 
 -- and so are two lists of bytes that encode the same state
-pub stateOf-injective : (b c : List ℕ) → Bytes b → Bytes c → encodes b ≡ true → encodes c ≡ true → state_of b ≡ state_of c → b ≡ c
-stateOf-injective b c y y' e e' h = sym (encodeState-stateOf b y e) ∙ ap encodeState h ∙ encodeState-stateOf c y' e'
+pub state_of_injective : (b c : List ℕ) → Bytes b → Bytes c → encodes b ≡ true → encodes c ≡ true → state_of b ≡ state_of c → b ≡ c
+state_of_injective b c y y' e e' h = sym (encode_state_state_of b y e) ∙ ap encode_state h ∙ encode_state_state_of c y' e'

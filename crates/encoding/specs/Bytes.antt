@@ -20,16 +20,16 @@ abbrev pub byte_at : List ℕ → ℕ → ℕ
 byte_at b at = get_or b at 0
 
 -- "Bytes marked reserved are 0"
-unfoldable pub allZero : List ℕ → Bool
-allZero [] = true
-allZero (x ∷ b) = eqb x 0 && allZero b
+unfoldable pub all_zero : List ℕ → Bool
+all_zero [] = true
+all_zero (x ∷ b) = eqb x 0 && all_zero b
 
 -- LISTS OF PARTS
 
 -- each entry's bytes, one after the other
-unfoldable pub encodeEach : {A : Type 0} → (A → List ℕ) → List A → List ℕ
-encodeEach f [] = []
-encodeEach f (x ∷ l) = f x ++ encodeEach f l
+unfoldable pub encode_each : {A : Type 0} → (A → List ℕ) → List A → List ℕ
+encode_each f [] = []
+encode_each f (x ∷ l) = f x ++ encode_each f l
 
 -- the entries of n parts of k bytes each
 unfoldable pub parts_at : {A : Type 0} → ℕ → ℕ → (List ℕ → A) → List ℕ → List A
@@ -37,6 +37,6 @@ parts_at k zero f b = []
 parts_at k (suc n) f b = f (take k b) ∷ parts_at k n f (drop k b)
 
 -- each of n parts of k bytes passes a test
-unfoldable pub partsPass : ℕ → ℕ → (List ℕ → Bool) → List ℕ → Bool
-partsPass k zero p b = true
-partsPass k (suc n) p b = p (take k b) && partsPass k n p (drop k b)
+unfoldable pub parts_pass : ℕ → ℕ → (List ℕ → Bool) → List ℕ → Bool
+parts_pass k zero p b = true
+parts_pass k (suc n) p b = p (take k b) && parts_pass k n p (drop k b)

@@ -1,8 +1,8 @@
 // The accumulators: 24 bytes each.
 ghost use Rattle.std.specs.Prelude.{◌≡◌, length};
-ghost use Rattle.encoding.specs.Bytes.{encodeEach, parts_at, partsPass};
-ghost use Rattle.encoding.specs.Encode.{encodeAccumulator};
-ghost use Rattle.encoding.specs.Decode.{accumulatorAt, accumulatorEncodes};
+ghost use Rattle.encoding.specs.Bytes.{encode_each, parts_at, parts_pass};
+ghost use Rattle.encoding.specs.Encode.{encode_accumulator};
+ghost use Rattle.encoding.specs.Decode.{accumulator_at, accumulator_encodes};
 
 use super::numbers::{are_zero, number, put_number, put_zeros};
 use parts::empty::no_accumulator;
@@ -12,7 +12,7 @@ use rules::state::Accumulator;
 // Whether 24 bytes encode an accumulator.
 fn accumulator_encodes(bytes: &[u8]) -> bool
     requires { length bytes.now ≡ 24 }
-    ensures { result ≡ accumulatorEncodes bytes.now }
+    ensures { result ≡ accumulator_encodes bytes.now }
 {
     let operator = bytes[5];
     if operator > 2 {
@@ -24,7 +24,7 @@ fn accumulator_encodes(bytes: &[u8]) -> bool
 // The accumulator that 24 bytes encode.
 fn accumulator_at(bytes: &[u8]) -> Accumulator
     requires { length bytes.now ≡ 24 }
-    ensures { result ≡ accumulatorAt bytes.now }
+    ensures { result ≡ accumulator_at bytes.now }
 {
     let value = number(&bytes[0..4]);
     let operator = operator_of(bytes[5]);
@@ -38,7 +38,7 @@ fn accumulator_at(bytes: &[u8]) -> Accumulator
 // The bytes of an accumulator.
 pub fn put_accumulator(a: Accumulator, out: &mut [u8])
     requires { length out.old ≡ 24 }
-    ensures { out.new ≡ encodeAccumulator a }
+    ensures { out.new ≡ encode_accumulator a }
 {
     let operator = a.operator;
     let o = operator_number(operator);
@@ -51,7 +51,7 @@ pub fn put_accumulator(a: Accumulator, out: &mut [u8])
 // Whether the bytes encode all accumulators.
 pub fn accumulators_encode(bytes: &[u8]) -> bool
     requires { length bytes.now ≡ 384 }
-    ensures { result ≡ partsPass 24 16 accumulatorEncodes bytes.now }
+    ensures { result ≡ parts_pass 24 16 accumulator_encodes bytes.now }
 {
     let mut i = 0;
     while i < 16 {
@@ -68,7 +68,7 @@ pub fn accumulators_encode(bytes: &[u8]) -> bool
 // All accumulators.
 pub fn accumulators_at(bytes: &[u8]) -> [Accumulator; 16]
     requires { length bytes.now ≡ 384 }
-    ensures { result ≡ parts_at 24 16 accumulatorAt bytes.now }
+    ensures { result ≡ parts_at 24 16 accumulator_at bytes.now }
 {
     let mut accs = [no_accumulator(); 16];
     let mut i = 0;
@@ -84,7 +84,7 @@ pub fn accumulators_at(bytes: &[u8]) -> [Accumulator; 16]
 // The bytes of all accumulators.
 pub fn put_accumulators(accs: [Accumulator; 16], out: &mut [u8])
     requires { length out.old ≡ 384 }
-    ensures { out.new ≡ encodeEach encodeAccumulator accs }
+    ensures { out.new ≡ encode_each encode_accumulator accs }
 {
     let mut i = 0;
     while i < 16 {

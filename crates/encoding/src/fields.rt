@@ -1,7 +1,7 @@
 // The fields of a state, one after the other.
 ghost use Rattle.std.specs.Prelude.{◌≡◌, true, length};
-ghost use Rattle.encoding.specs.Encode.{encodeHead, encodeState};
-ghost use Rattle.encoding.specs.Decode.{state_of, fieldsEncode};
+ghost use Rattle.encoding.specs.Encode.{encode_head, encode_state};
+ghost use Rattle.encoding.specs.Decode.{state_of, fields_encode};
 
 use super::accumulators::{accumulators_at, accumulators_encode, put_accumulators};
 use super::activities::{activities_at, activities_encode, put_activity};
@@ -11,7 +11,7 @@ use rules::state::State;
 // Whether bytes, as many as a state has, encode one.
 pub fn fields_encode(bytes: &[u8]) -> bool
     requires { length bytes.now ≡ 13776 }
-    ensures { result ≡ fieldsEncode bytes.now }
+    ensures { result ≡ fields_encode bytes.now }
 {
     let version = bytes[0];
     if version != 1 {
@@ -33,7 +33,7 @@ pub fn fields_encode(bytes: &[u8]) -> bool
 // The state that bytes encode.
 pub fn state_at(bytes: &[u8]) -> State
     requires bytes_len { length bytes.now ≡ 13776 }
-    requires bytes_value { fieldsEncode bytes.now ≡ true }
+    requires bytes_value { fields_encode bytes.now ≡ true }
     ensures { result ≡ state_of bytes.now }
 {
     let steps = number(&bytes[4..8]) as u16;
@@ -54,7 +54,7 @@ pub fn state_at(bytes: &[u8]) -> State
 // The bytes before the activities.
 fn put_head(s: State, out: &mut [u8])
     requires { length out.old ≡ 464 }
-    ensures { out.new ≡ encodeHead s }
+    ensures { out.new ≡ encode_head s }
 {
     let cells = s.cells;
     let accs = s.accs;
@@ -71,7 +71,7 @@ fn put_head(s: State, out: &mut [u8])
 // The bytes of a state. Its activities go one by one: handed on whole, they would be copied.
 pub fn put_state(s: State, out: &mut [u8])
     requires { length out.old ≡ 13776 }
-    ensures { out.new ≡ encodeState s }
+    ensures { out.new ≡ encode_state s }
 {
     put_head(s, &mut out[0..464]);
     let mut i = 0;

@@ -1,7 +1,7 @@
 // The state as bytes, for a host that is no Rattle program: the layout of docs/STATE-BYTES.md, both ways.
 ghost use Rattle.std.specs.Prelude.{◌≡◌, cond, eqb, length};
-ghost use Rattle.encoding.specs.Encode.{encodeState};
-ghost use Rattle.encoding.specs.Decode.{decodedOf};
+ghost use Rattle.encoding.specs.Encode.{encode_state};
+ghost use Rattle.encoding.specs.Decode.{decoded_of};
 
 use rules::state::State;
 
@@ -21,7 +21,7 @@ pub struct Decoded {
 
 // The state that bytes encode.
 pub fn decode(bytes: &[u8]) -> Decoded
-    ensures { result ≡ decodedOf bytes.now }
+    ensures { result ≡ decoded_of bytes.now }
 {
     if bytes.len() != 13776 {
         return Decoded {
@@ -44,7 +44,7 @@ pub fn decode(bytes: &[u8]) -> Decoded
 
 // The bytes of a state, into a buffer of 13,776 bytes; another buffer stays as it was.
 pub fn encode(s: State, out: &mut [u8])
-    ensures { out.new ≡ cond (eqb (length out.old) 13776) (encodeState s) out.old }
+    ensures { out.new ≡ cond (eqb (length out.old) 13776) (encode_state s) out.old }
 {
     if out.len() == 13776 {
         fields::put_state(s, out);

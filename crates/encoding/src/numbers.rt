@@ -1,6 +1,6 @@
 // Numbers of more than one byte, lowest byte first, and reserved bytes.
 ghost use Rattle.std.specs.Prelude.{◌≡◌, ◌≤◌, length, replicate};
-ghost use Rattle.encoding.specs.Bytes.{bytes_of, number_of, allZero, encodeEach, parts_at};
+ghost use Rattle.encoding.specs.Bytes.{bytes_of, number_of, all_zero, encode_each, parts_at};
 
 // The highest phase, and the most steps taken, that a state has.
 pub const LIMIT: u32 = 65535;
@@ -58,7 +58,7 @@ pub fn cells_at(bytes: &[u8]) -> [u32; 16]
 // The four bytes of each number.
 pub fn put_cells(cells: [u32; 16], out: &mut [u8])
     requires { length out.old ≡ 64 }
-    ensures { out.new ≡ encodeEach (bytes_of 4) cells }
+    ensures { out.new ≡ encode_each (bytes_of 4) cells }
 {
     let mut i = 0;
     while i < 16 {
@@ -96,7 +96,7 @@ pub fn put_bytes(a: [u8; 8], out: &mut [u8])
 
 // Whether reserved bytes are 0.
 pub fn are_zero(bytes: &[u8]) -> bool
-    ensures { result ≡ allZero bytes.now }
+    ensures { result ≡ all_zero bytes.now }
 {
     let mut i = 0;
     while i < bytes.len() {

@@ -11,37 +11,37 @@ use lib.Seq.{drop-drop}
 use lib.Dec.{ltb}
 use borrow.Author.Tests.{ltb-true, ltb-false, lt-ltb, le-ltb}
 use Rattle.rules.specs.Search.{all_below}
-use Rattle.rules.proofs.Tests.{and-true, and_intro, decide}
-use Rattle.rules.proofs.Search.{allBelow-at, allBelow-intro, both}
-use Rattle.encoding.specs.Bytes.{part, allZero, parts_at, partsPass}
+use Rattle.rules.proofs.Tests.{and_true, and_intro, decide}
+use Rattle.rules.proofs.Search.{all_below_at, all_below_intro, both}
+use Rattle.encoding.specs.Bytes.{part, all_zero, parts_at, parts_pass}
 use Rattle.encoding.proofs.FieldLaws.{sized}
-use Rattle.encoding.proofs.PartLaws.{partsAt-at, partsPass-at, turn-fits}
-use Rattle.entries.proofs.ZeroLaws.{Unused, zero-take, zero-drop, zero-parts}
+use Rattle.encoding.proofs.PartLaws.{parts_at_at, parts_pass_at, turn_fits}
+use Rattle.entries.proofs.ZeroLaws.{Unused, zero_take, zero_drop, zero_parts}
 
 -- what passes at each part passes whole
-partsPass-intro : (k n : ℕ) (p : List ℕ → Bool) (b : List ℕ) → ((i : ℕ) → i < n → p (part b (k * i) k) ≡ true) → partsPass k n p b ≡ true
-unfolding partsPass
-partsPass-intro k zero p b h = refl
-partsPass-intro k (suc n) p b h =
+parts_pass_intro : (k n : ℕ) (p : List ℕ → Bool) (b : List ℕ) → ((i : ℕ) → i < n → p (part b (k * i) k) ≡ true) → parts_pass k n p b ≡ true
+unfolding parts_pass
+parts_pass_intro k zero p b h = refl
+parts_pass_intro k (suc n) p b h =
     let first : p (take k b) ≡ true = rw mul-zero at (h 0 (omega arith)) in
-    and_intro (p (take k b)) _ first (partsPass-intro k n p (drop k b) (λ i j. rw (drop-drop, add_comm k (k * i), ← mul-suc) (h (suc i) (suc-le-suc j))))
+    and_intro (p (take k b)) _ first (parts_pass_intro k n p (drop k b) (λ i j. rw (drop-drop, add_comm k (k * i), ← mul-suc) (h (suc i) (suc-le-suc j))))
 
 -- the part m + i, from part m on
-part-on : (k m i : ℕ) (b : List ℕ) → part (drop (k * m) b) (k * i) k ≡ part b (k * (m + i)) k
-part-on k m i b = rw (drop-drop, ← mul-add)
+part_on : (k m i : ℕ) (b : List ℕ) → part (drop (k * m) b) (k * i) k ≡ part b (k * (m + i)) k
+part_on k m i b = rw (drop-drop, ← mul-add)
 
 -- EVERY ENTRY TESTED
 
 -- with the test of its bytes
-pub tested : (k n : ℕ) (p : List ℕ → Bool) (g : ℕ → Bool) (b : List ℕ) → all_below n (λ i. p (part b (k * i) k) && g i) ≡ partsPass k n p b && all_below n g
+pub tested : (k n : ℕ) (p : List ℕ → Bool) (g : ℕ → Bool) (b : List ℕ) → all_below n (λ i. p (part b (k * i) k) && g i) ≡ parts_pass k n p b && all_below n g
 tested k n p g b =
-    both (all_below n (λ i. p (part b (k * i) k) && g i)) (partsPass k n p b && all_below n g)
+    both (all_below n (λ i. p (part b (k * i) k) && g i)) (parts_pass k n p b && all_below n g)
     (λ e.
-    let at : (i : ℕ) → i < n → (p (part b (k * i) k) ≡ true) × (g i ≡ true) = λ i j. and-true (p (part b (k * i) k)) (g i) (allBelow-at n (λ x. p (part b (k * x) k) && g x) e i j) in
-    and_intro (partsPass k n p b) _ (partsPass-intro k n p b (λ i j. (at i j).0)) (allBelow-intro n g (λ i j. (at i j).1)))
+    let at : (i : ℕ) → i < n → (p (part b (k * i) k) ≡ true) × (g i ≡ true) = λ i j. and_true (p (part b (k * i) k)) (g i) (all_below_at n (λ x. p (part b (k * x) k) && g x) e i j) in
+    and_intro (parts_pass k n p b) _ (parts_pass_intro k n p b (λ i j. (at i j).0)) (all_below_intro n g (λ i j. (at i j).1)))
     (λ e.
-    let h = and-true (partsPass k n p b) (all_below n g) e in
-    allBelow-intro n (λ i. p (part b (k * i) k) && g i) (λ i j. and_intro (p (part b (k * i) k)) (g i) (partsPass-at k n i p b h.0 j) (allBelow-at n g h.1 i j)))
+    let h = and_true (parts_pass k n p b) (all_below n g) e in
+    all_below_intro n (λ i. p (part b (k * i) k) && g i) (λ i j. and_intro (p (part b (k * i) k)) (g i) (parts_pass_at k n i p b h.0 j) (all_below_at n g h.1 i j)))
 
 -- THE FIRST m IN USE, THE OTHERS ALL 0
 
@@ -57,28 +57,28 @@ module _ {A : Type 0} {k : ℕ} {p : List ℕ → Bool} {f : List ℕ → A} {is
 
   -- each has all its bytes
   whole_part : (i : ℕ) → i < n → length (part b (k * i) k) ≡ k
-  whole_part i j = sized b (k * i) k k refl (rw l (turn-fits k j))
+  whole_part i j = sized b (k * i) k k refl (rw l (turn_fits k j))
 
   -- an entry below m
   in_use : (i : ℕ) → i < m → entry i ≡ used i
   in_use i j = rw (lt-ltb i m j)
 
   -- an entry from m on
-  not-in-use : (i : ℕ) → m ≤ i → i < n → entry i ≡ isNo (f (part b (k * i) k))
-  not-in-use i j h = rw (le-ltb i m j, partsAt-at k n i f b d h)
+  not_in_use : (i : ℕ) → m ≤ i → i < n → entry i ≡ isNo (f (part b (k * i) k))
+  not_in_use i j h = rw (le-ltb i m j, parts_at_at k n i f b d h)
 
   -- where all entries are as they should be, the bytes from entry m on are 0
-  there : partsPass k n p b && all_below n entry ≡ true → all_below m first && allZero (drop (k * m) b) ≡ true
+  there : parts_pass k n p b && all_below n entry ≡ true → all_below m first && all_zero (drop (k * m) b) ≡ true
   there e =
-      let h = and-true (partsPass k n p b) (all_below n entry) e in
-      let pass : (i : ℕ) → i < n → p (part b (k * i) k) ≡ true = λ i j. partsPass-at k n i p b h.0 j in
-      let each : (i : ℕ) → i < n → entry i ≡ true = λ i j. allBelow-at n entry h.1 i j in
+      let h = and_true (parts_pass k n p b) (all_below n entry) e in
+      let pass : (i : ℕ) → i < n → p (part b (k * i) k) ≡ true = λ i j. parts_pass_at k n i p b h.0 j in
+      let each : (i : ℕ) → i < n → entry i ≡ true = λ i j. all_below_at n entry h.1 i j in
       and_intro (all_below m first) _
-      (allBelow-intro m first (λ i j. and_intro (p (part b (k * i) k)) (used i) (pass i (omega arith)) (sym (in_use i j) ∙ each i (omega arith))))
-      (zero-parts k (n - m) (drop (k * m) b) sizes
+      (all_below_intro m first (λ i j. and_intro (p (part b (k * i) k)) (used i) (pass i (omega arith)) (sym (in_use i j) ∙ each i (omega arith))))
+      (zero_parts k (n - m) (drop (k * m) b) sizes
       (λ i j.
       let at : m + i < n = omega arith in
-      rw (part-on k m i b) (u.is (part b (k * (m + i)) k) (whole_part (m + i) at) ∙ and_intro (p (part b (k * (m + i)) k)) _ (pass (m + i) at) (sym (not-in-use (m + i) (omega arith) at) ∙ each (m + i) at))))
+      rw (part_on k m i b) (u.is (part b (k * (m + i)) k) (whole_part (m + i) at) ∙ and_intro (p (part b (k * (m + i)) k)) _ (pass (m + i) at) (sym (not_in_use (m + i) (omega arith) at) ∙ each (m + i) at))))
     where
       sizes : length (drop (k * m) b) ≡ k * (n - m)
       sizes =
@@ -87,41 +87,41 @@ module _ {A : Type 0} {k : ℕ} {p : List ℕ → Bool} {f : List ℕ → A} {is
           rw (length-drop, l, s) (omega arith)
 
   -- and where those bytes are 0, each entry from m on is one not in use
-  back : all_below m first && allZero (drop (k * m) b) ≡ true → partsPass k n p b && all_below n entry ≡ true
+  back : all_below m first && all_zero (drop (k * m) b) ≡ true → parts_pass k n p b && all_below n entry ≡ true
   back e =
-      let h = and-true (all_below m first) (allZero (drop (k * m) b)) e in
+      let h = and_true (all_below m first) (all_zero (drop (k * m) b)) e in
       let all : (i : ℕ) → i < n → (p (part b (k * i) k) ≡ true) × (entry i ≡ true) = λ i j. go i j (decide (ltb i m)) h.0 h.1 in
-      and_intro (partsPass k n p b) _ (partsPass-intro k n p b (λ i j. (all i j).0)) (allBelow-intro n entry (λ i j. (all i j).1))
+      and_intro (parts_pass k n p b) _ (parts_pass_intro k n p b (λ i j. (all i j).0)) (all_below_intro n entry (λ i j. (all i j).1))
     where
-      go : (i : ℕ) → i < n → (ltb i m ≡ true) ⊎ (ltb i m ≡ false) → all_below m first ≡ true → allZero (drop (k * m) b) ≡ true → (p (part b (k * i) k) ≡ true) × (entry i ≡ true)
+      go : (i : ℕ) → i < n → (ltb i m ≡ true) ⊎ (ltb i m ≡ false) → all_below m first ≡ true → all_zero (drop (k * m) b) ≡ true → (p (part b (k * i) k) ≡ true) × (entry i ≡ true)
       go i j (inl t) x z =
-          let q = and-true (p (part b (k * i) k)) (used i) (allBelow-at m first x i (ltb-true i m t)) in
+          let q = and_true (p (part b (k * i) k)) (used i) (all_below_at m first x i (ltb-true i m t)) in
           (q.0, in_use i (ltb-true i m t) ∙ q.1)
       go i j (inr t) x z =
           let g = ltb-false i m t in
           let w : m + (i - m) ≡ i = omega arith in
-          let o : part (drop (k * m) b) (k * (i - m)) k ≡ part b (k * i) k = part-on k m (i - m) b ∙ ap (λ y. part b (k * y) k) w in
-          let c : allZero (part b (k * i) k) ≡ true = rw o at (zero-take k (drop (k * (i - m)) (drop (k * m) b)) (zero-drop (k * (i - m)) (drop (k * m) b) z)) in
-          let q = and-true (p (part b (k * i) k)) (isNo (f (part b (k * i) k))) (sym (u.is (part b (k * i) k) (whole_part i j)) ∙ c) in
-          (q.0, not-in-use i g j ∙ q.1)
+          let o : part (drop (k * m) b) (k * (i - m)) k ≡ part b (k * i) k = part_on k m (i - m) b ∙ ap (λ y. part b (k * y) k) w in
+          let c : all_zero (part b (k * i) k) ≡ true = rw o at (zero_take k (drop (k * (i - m)) (drop (k * m) b)) (zero_drop (k * (i - m)) (drop (k * m) b) z)) in
+          let q = and_true (p (part b (k * i) k)) (isNo (f (part b (k * i) k))) (sym (u.is (part b (k * i) k) (whole_part i j)) ∙ c) in
+          (q.0, not_in_use i g j ∙ q.1)
 
   -- one pass over the first m and the bytes behind them decides of all
-  pub joined : all_below m first && allZero (drop (k * m) b) ≡ partsPass k n p b && all_below n entry
-  joined = both (all_below m first && allZero (drop (k * m) b)) (partsPass k n p b && all_below n entry) back there
+  pub joined : all_below m first && all_zero (drop (k * m) b) ≡ parts_pass k n p b && all_below n entry
+  joined = both (all_below m first && all_zero (drop (k * m) b)) (parts_pass k n p b && all_below n entry) back there
 
 -- tests that agree below n
-allBelow-same : (n : ℕ) (f g : ℕ → Bool) → ((i : ℕ) → i < n → f i ≡ g i) → all_below n f ≡ all_below n g
+all_below_same : (n : ℕ) (f g : ℕ → Bool) → ((i : ℕ) → i < n → f i ≡ g i) → all_below n f ≡ all_below n g
 unfolding all_below
-allBelow-same zero f g h = refl
-allBelow-same (suc n) f g h = rw (h n (omega arith), allBelow-same n f g (λ i j. h i (omega arith)))
+all_below_same zero f g h = refl
+all_below_same (suc n) f g h = rw (h n (omega arith), all_below_same n f g (λ i j. h i (omega arith)))
 
 -- the same, where the entries in use are tested as they are read
 pub joined_at : {A : Type 0} {k : ℕ} {p : List ℕ → Bool} {f : List ℕ → A} {isNo : A → Bool} → Unused k p f isNo → (n m : ℕ) (d : A) (b : List ℕ) (g : ℕ → A → Bool)
     → m ≤ n → length b ≡ k * n
-    → all_below m (λ i. p (part b (k * i) k) && g i (f (part b (k * i) k))) && allZero (drop (k * m) b)
-    ≡ partsPass k n p b && all_below n (λ i. cond (ltb i m) (g i (get_or (parts_at k n f b) i d)) (isNo (get_or (parts_at k n f b) i d)))
+    → all_below m (λ i. p (part b (k * i) k) && g i (f (part b (k * i) k))) && all_zero (drop (k * m) b)
+    ≡ parts_pass k n p b && all_below n (λ i. cond (ltb i m) (g i (get_or (parts_at k n f b) i d)) (isNo (get_or (parts_at k n f b) i d)))
 joined_at {k = k} {p = p} {f = f} u n m d b g few l =
-    ap (λ q. q && allZero (drop (k * m) b))
-    (allBelow-same m (λ i. p (part b (k * i) k) && g i (f (part b (k * i) k))) (λ i. p (part b (k * i) k) && g i (get_or (parts_at k n f b) i d))
-    (λ i j. ap (λ (x : _). p (part b (k * i) k) && g i x) (sym (partsAt-at k n i f b d (omega arith)))))
+    ap (λ q. q && all_zero (drop (k * m) b))
+    (all_below_same m (λ i. p (part b (k * i) k) && g i (f (part b (k * i) k))) (λ i. p (part b (k * i) k) && g i (get_or (parts_at k n f b) i d))
+    (λ i j. ap (λ (x : _). p (part b (k * i) k) && g i x) (sym (parts_at_at k n i f b d (omega arith)))))
     ∙ joined u n m d b (λ i. g i (get_or (parts_at k n f b) i d)) few l

@@ -1,9 +1,9 @@
 // Parts of a state in its bytes: those that are all 0, the steps taken, and what stands in an activity's 208 bytes. All total.
 ghost use Rattle.std.specs.Prelude.{◌<◌, true, ◌≡◌, length};
 ghost use Rattle.rules.specs.State.{frame, hold};
-ghost use Rattle.encoding.specs.Bytes.{number_of, part, byte_at, allZero};
-ghost use Rattle.encoding.specs.Decode.{activityAt, frameEncodes, holdEncodes, statusPasses};
-ghost use Rattle.entries.specs.Entries.{frameBytes, holdBytes};
+ghost use Rattle.encoding.specs.Bytes.{number_of, part, byte_at, all_zero};
+ghost use Rattle.encoding.specs.Decode.{activity_at, frame_encodes, hold_encodes, status_passes};
+ghost use Rattle.entries.specs.Entries.{frame_bytes, hold_bytes};
 
 use encoding::activities::{status_of, status_passes};
 use encoding::frames::{frame_at, frame_encodes};
@@ -14,7 +14,7 @@ use rules::state::{Frame, Hold, Status};
 
 // Whether all bytes are 0, with no exit on the way.
 pub fn is_zero(bytes: &[u8]) -> bool
-    ensures { result ≡ allZero bytes.now }
+    ensures { result ≡ all_zero bytes.now }
 {
     let mut most: u8 = 0;
     let mut i = 0;
@@ -40,7 +40,7 @@ pub fn steps_in(state: &[u8]) -> u32
 
 // Body d of the stack of an activity's bytes.
 pub fn frame_in(bytes: &[u8], d: usize) -> Frame
-    ensures { length bytes.now ≡ 208 → d < 16 → result ≡ frame (activityAt bytes.now) d }
+    ensures { length bytes.now ≡ 208 → d < 16 → result ≡ frame (activity_at bytes.now) d }
 {
     if bytes.len() != 208 {
         return no_frame();
@@ -54,7 +54,7 @@ pub fn frame_in(bytes: &[u8], d: usize) -> Frame
 
 // Whether its reserved bytes are 0.
 pub fn frame_whole(bytes: &[u8], d: usize) -> bool
-    ensures { length bytes.now ≡ 208 → d < 16 → result ≡ frameEncodes (frameBytes bytes.now d) }
+    ensures { length bytes.now ≡ 208 → d < 16 → result ≡ frame_encodes (frame_bytes bytes.now d) }
 {
     if bytes.len() != 208 {
         return false;
@@ -68,7 +68,7 @@ pub fn frame_whole(bytes: &[u8], d: usize) -> bool
 
 // Clock name k of an activity's bytes, where they encode one.
 pub fn hold_in(bytes: &[u8], k: usize) -> Hold
-    ensures { length bytes.now ≡ 208 → k < 8 → holdEncodes (holdBytes bytes.now k) ≡ true → result ≡ hold (activityAt bytes.now) k }
+    ensures { length bytes.now ≡ 208 → k < 8 → hold_encodes (hold_bytes bytes.now k) ≡ true → result ≡ hold (activity_at bytes.now) k }
 {
     if bytes.len() != 208 {
         return no_hold();
@@ -88,7 +88,7 @@ pub fn hold_in(bytes: &[u8], k: usize) -> Hold
 
 // Whether its bytes encode one.
 pub fn hold_whole(bytes: &[u8], k: usize) -> bool
-    ensures { length bytes.now ≡ 208 → k < 8 → result ≡ holdEncodes (holdBytes bytes.now k) }
+    ensures { length bytes.now ≡ 208 → k < 8 → result ≡ hold_encodes (hold_bytes bytes.now k) }
 {
     if bytes.len() != 208 {
         return false;
@@ -102,7 +102,7 @@ pub fn hold_whole(bytes: &[u8], k: usize) -> bool
 
 // Whether they are all 0, as those of a free name are.
 pub fn hold_zero(bytes: &[u8], k: usize) -> bool
-    ensures { length bytes.now ≡ 208 → k < 8 → result ≡ allZero (holdBytes bytes.now k) }
+    ensures { length bytes.now ≡ 208 → k < 8 → result ≡ all_zero (hold_bytes bytes.now k) }
 {
     if bytes.len() != 208 {
         return false;
@@ -117,7 +117,7 @@ pub fn hold_zero(bytes: &[u8], k: usize) -> bool
 
 // The standing of an activity's bytes.
 pub fn status_in(bytes: &[u8]) -> Status
-    ensures { length bytes.now ≡ 208 → result ≡ (activityAt bytes.now).status }
+    ensures { length bytes.now ≡ 208 → result ≡ (activity_at bytes.now).status }
 {
     if bytes.len() != 208 {
         return Status::Running;
@@ -127,7 +127,7 @@ pub fn status_in(bytes: &[u8]) -> Status
 
 // Whether its two bytes encode one.
 pub fn status_whole(bytes: &[u8]) -> bool
-    ensures { length bytes.now ≡ 208 → result ≡ statusPasses (byte_at bytes.now 4) (byte_at bytes.now 5) }
+    ensures { length bytes.now ≡ 208 → result ≡ status_passes (byte_at bytes.now 4) (byte_at bytes.now 5) }
 {
     if bytes.len() != 208 {
         return false;

@@ -11,136 +11,136 @@ use Rattle.rules.specs.declared.state.Hold.{Hold}
 use Rattle.rules.specs.declared.state.Activity.{Activity}
 use Rattle.rules.specs.declared.state.Accumulator.{Accumulator}
 use Rattle.rules.specs.declared.state.State.{State}
-use Rattle.rules.specs.State.{absent, noFrame, noHold, noAccumulator, act, frame, hold, accumulator}
-use Rattle.rules.specs.Effects.{withRegister}
+use Rattle.rules.specs.State.{absent, no_frame, no_hold, no_accumulator, act, frame, hold, accumulator}
+use Rattle.rules.specs.Effects.{with_register}
 use Rattle.rules.proofs.Lists.{Stored, new, old, stored}
-use Rattle.encoding.specs.Bytes.{bytes_of, number_of, part, encodeEach}
-use Rattle.encoding.specs.Encode.{version, statusByte, faultByte, encodeFrame, encodeHold, encodeAccumulator, encodeActivity, encodeState}
-use Rattle.fields.specs.Lent.{FineActivity, Fine, Lent, Gets, Puts, withAct, withSteps, withStatus, withHold, withFrame, withDepth}
-use Rattle.encoding.proofs.NumberLaws.{bytesOf-length}
-use Rattle.fields.proofs.Within.{put_first, put_second, put-inside, each-length, part-first, part-second, part-inside}
+use Rattle.encoding.specs.Bytes.{bytes_of, number_of, part, encode_each}
+use Rattle.encoding.specs.Encode.{version, status_byte, fault_byte, encode_frame, encode_hold, encode_accumulator, encode_activity, encode_state}
+use Rattle.fields.specs.Lent.{FineActivity, Fine, Lent, Gets, Puts, with_act, with_steps, with_status, with_hold, with_frame, with_depth}
+use Rattle.encoding.proofs.NumberLaws.{bytes_of_length}
+use Rattle.fields.proofs.Within.{put_first, put_second, put_inside, each_length, part_first, part_second, part_inside}
 
 -- LENGTHS
 
-pub frame-length : (f : Frame) → length (encodeFrame f) ≡ 8
-unfolding encodeFrame bytes_of
-frame-length f = refl
+pub frame_length : (f : Frame) → length (encode_frame f) ≡ 8
+unfolding encode_frame bytes_of
+frame_length f = refl
 
-pub hold-length : (h : Hold) → length (encodeHold h) ≡ 8
-unfolding encodeHold bytes_of
-hold-length h = refl
+pub hold_length : (h : Hold) → length (encode_hold h) ≡ 8
+unfolding encode_hold bytes_of
+hold_length h = refl
 
-pub accumulator-length : (c : Accumulator) → length (encodeAccumulator c) ≡ 24
-unfolding encodeAccumulator bytes_of
-accumulator-length c = refl
+pub accumulator_length : (c : Accumulator) → length (encode_accumulator c) ≡ 24
+unfolding encode_accumulator bytes_of
+accumulator_length c = refl
 
 -- all entries
-pub entries : {A : Type 0} (f : A → List ℕ) (k n m : ℕ) (d : A) (l : List A) → ((i : ℕ) → i < length l → length (f (get_or l i d)) ≡ k) → length l ≡ n → k * n ≡ m → length (encodeEach f l) ≡ m
-entries f k n m d l h e q = each-length f k d l h ∙ rw e q
+pub entries : {A : Type 0} (f : A → List ℕ) (k n m : ℕ) (d : A) (l : List A) → ((i : ℕ) → i < length l → length (f (get_or l i d)) ≡ k) → length l ≡ n → k * n ≡ m → length (encode_each f l) ≡ m
+entries f k n m d l h e q = each_length f k d l h ∙ rw e q
 
 -- WITHIN AN ACTIVITY
 
 -- before its holds
-abbrev pub own-head : Activity → List ℕ
-own-head a = bytes_of 4 a.register ++ (statusByte a.status ∷ faultByte a.status ∷ a.spawner ∷ a.depth ∷ []) ++ a.accumulators
+abbrev pub own_head : Activity → List ℕ
+own_head a = bytes_of 4 a.register ++ (status_byte a.status ∷ fault_byte a.status ∷ a.spawner ∷ a.depth ∷ []) ++ a.accumulators
 
 module _ (a : Activity) (w : FineActivity a) where
-  pub head-length : length (own-head a) ≡ 16
+  pub head_length : length (own_head a) ≡ 16
   unfolding bytes_of
-  head-length = rw w.names8
+  head_length = rw w.names8
 
-  pub holds-length : length (encodeEach encodeHold a.holds) ≡ 64
-  holds-length = entries encodeHold 8 8 64 noHold a.holds (λ n g. hold-length (hold a n)) w.holds8 refl
+  pub holds_length : length (encode_each encode_hold a.holds) ≡ 64
+  holds_length = entries encode_hold 8 8 64 no_hold a.holds (λ n g. hold_length (hold a n)) w.holds8 refl
 
-  pub front_length : length (own-head a ++ encodeEach encodeHold a.holds) ≡ 80
-  front_length = length-append (own-head a) (encodeEach encodeHold a.holds) ∙ rw (head-length, holds-length)
+  pub front_length : length (own_head a ++ encode_each encode_hold a.holds) ≡ 80
+  front_length = length-append (own_head a) (encode_each encode_hold a.holds) ∙ rw (head_length, holds_length)
 
-  pub activity-length : length (encodeActivity a) ≡ 208
-  unfolding encodeActivity
-  activity-length =
-      length-append (own-head a ++ encodeEach encodeHold a.holds) (encodeEach encodeFrame a.frames)
-      ∙ rw (front_length, entries encodeFrame 8 16 128 noFrame a.frames (λ n g. frame-length (frame a n)) w.frames16 refl)
+  pub activity_length : length (encode_activity a) ≡ 208
+  unfolding encode_activity
+  activity_length =
+      length-append (own_head a ++ encode_each encode_hold a.holds) (encode_each encode_frame a.frames)
+      ∙ rw (front_length, entries encode_frame 8 16 128 no_frame a.frames (λ n g. frame_length (frame a n)) w.frames16 refl)
 
   -- within one of its holds
-  pub part-hold : (k x m : ℕ) → k < 8 → x + m ≤ 8 → part (encodeActivity a) (16 + (8 * k + x)) m ≡ part (encodeHold (hold a k)) x m
-  unfolding encodeActivity
-  part-hold k x m j b =
-      part-first (own-head a ++ encodeEach encodeHold a.holds) (encodeEach encodeFrame a.frames) (16 + (8 * k + x)) m (rw front_length (omega arith))
-      ∙ ap (λ n. part (own-head a ++ encodeEach encodeHold a.holds) (n + (8 * k + x)) m) (sym head-length)
-      ∙ part-second (own-head a) (encodeEach encodeHold a.holds) (8 * k + x) m
-      ∙ part-inside encodeHold 8 noHold a.holds (λ n g. hold-length (get_or a.holds n noHold)) k x m (rw w.holds8 j) b
+  pub part_hold : (k x m : ℕ) → k < 8 → x + m ≤ 8 → part (encode_activity a) (16 + (8 * k + x)) m ≡ part (encode_hold (hold a k)) x m
+  unfolding encode_activity
+  part_hold k x m j b =
+      part_first (own_head a ++ encode_each encode_hold a.holds) (encode_each encode_frame a.frames) (16 + (8 * k + x)) m (rw front_length (omega arith))
+      ∙ ap (λ n. part (own_head a ++ encode_each encode_hold a.holds) (n + (8 * k + x)) m) (sym head_length)
+      ∙ part_second (own_head a) (encode_each encode_hold a.holds) (8 * k + x) m
+      ∙ part_inside encode_hold 8 no_hold a.holds (λ n g. hold_length (get_or a.holds n no_hold)) k x m (rw w.holds8 j) b
 
-  pub put-hold : (k x m : ℕ) (e : List ℕ) (h : Hold) → k < 8 → x + m ≤ 8 → put_mid x m (encodeHold (hold a k)) e ≡ encodeHold h
-      → put_mid (16 + (8 * k + x)) m (encodeActivity a) e ≡ encodeActivity (withHold a k h)
-  unfolding encodeActivity
-  put-hold k x m e h j b q =
-      put_first (own-head a ++ encodeEach encodeHold a.holds) (encodeEach encodeFrame a.frames) e (16 + (8 * k + x)) m (rw front_length (omega arith))
-      ∙ ap (λ r. r ++ encodeEach encodeFrame a.frames)
-      (ap (λ n. put_mid (n + (8 * k + x)) m (own-head a ++ encodeEach encodeHold a.holds) e) (sym head-length)
-      ∙ put_second (own-head a) (encodeEach encodeHold a.holds) e (8 * k + x) m
-      ∙ ap (λ r. own-head a ++ r)
-      (put-inside encodeHold 8 noHold a.holds (λ n g. hold-length (get_or a.holds n noHold)) k x m e h (rw w.holds8 j) b q))
+  pub put_hold : (k x m : ℕ) (e : List ℕ) (h : Hold) → k < 8 → x + m ≤ 8 → put_mid x m (encode_hold (hold a k)) e ≡ encode_hold h
+      → put_mid (16 + (8 * k + x)) m (encode_activity a) e ≡ encode_activity (with_hold a k h)
+  unfolding encode_activity
+  put_hold k x m e h j b q =
+      put_first (own_head a ++ encode_each encode_hold a.holds) (encode_each encode_frame a.frames) e (16 + (8 * k + x)) m (rw front_length (omega arith))
+      ∙ ap (λ r. r ++ encode_each encode_frame a.frames)
+      (ap (λ n. put_mid (n + (8 * k + x)) m (own_head a ++ encode_each encode_hold a.holds) e) (sym head_length)
+      ∙ put_second (own_head a) (encode_each encode_hold a.holds) e (8 * k + x) m
+      ∙ ap (λ r. own_head a ++ r)
+      (put_inside encode_hold 8 no_hold a.holds (λ n g. hold_length (get_or a.holds n no_hold)) k x m e h (rw w.holds8 j) b q))
 
   -- within one of its frames
-  pub part-frame : (d x m : ℕ) → d < 16 → x + m ≤ 8 → part (encodeActivity a) (80 + (8 * d + x)) m ≡ part (encodeFrame (frame a d)) x m
-  unfolding encodeActivity
-  part-frame d x m j b =
-      ap (λ n. part (encodeActivity a) (n + (8 * d + x)) m) (sym front_length)
-      ∙ part-second (own-head a ++ encodeEach encodeHold a.holds) (encodeEach encodeFrame a.frames) (8 * d + x) m
-      ∙ part-inside encodeFrame 8 noFrame a.frames (λ n g. frame-length (get_or a.frames n noFrame)) d x m (rw w.frames16 j) b
+  pub part_frame : (d x m : ℕ) → d < 16 → x + m ≤ 8 → part (encode_activity a) (80 + (8 * d + x)) m ≡ part (encode_frame (frame a d)) x m
+  unfolding encode_activity
+  part_frame d x m j b =
+      ap (λ n. part (encode_activity a) (n + (8 * d + x)) m) (sym front_length)
+      ∙ part_second (own_head a ++ encode_each encode_hold a.holds) (encode_each encode_frame a.frames) (8 * d + x) m
+      ∙ part_inside encode_frame 8 no_frame a.frames (λ n g. frame_length (get_or a.frames n no_frame)) d x m (rw w.frames16 j) b
 
-  pub put-frame : (d x m : ℕ) (e : List ℕ) (f : Frame) → d < 16 → x + m ≤ 8 → put_mid x m (encodeFrame (frame a d)) e ≡ encodeFrame f
-      → put_mid (80 + (8 * d + x)) m (encodeActivity a) e ≡ encodeActivity (withFrame a d f)
-  unfolding encodeActivity
-  put-frame d x m e f j b q =
-      ap (λ n. put_mid (n + (8 * d + x)) m (encodeActivity a) e) (sym front_length)
-      ∙ put_second (own-head a ++ encodeEach encodeHold a.holds) (encodeEach encodeFrame a.frames) e (8 * d + x) m
-      ∙ ap (λ r. own-head a ++ encodeEach encodeHold a.holds ++ r)
-      (put-inside encodeFrame 8 noFrame a.frames (λ n g. frame-length (get_or a.frames n noFrame)) d x m e f (rw w.frames16 j) b q)
+  pub put_frame : (d x m : ℕ) (e : List ℕ) (f : Frame) → d < 16 → x + m ≤ 8 → put_mid x m (encode_frame (frame a d)) e ≡ encode_frame f
+      → put_mid (80 + (8 * d + x)) m (encode_activity a) e ≡ encode_activity (with_frame a d f)
+  unfolding encode_activity
+  put_frame d x m e f j b q =
+      ap (λ n. put_mid (n + (8 * d + x)) m (encode_activity a) e) (sym front_length)
+      ∙ put_second (own_head a ++ encode_each encode_hold a.holds) (encode_each encode_frame a.frames) e (8 * d + x) m
+      ∙ ap (λ r. own_head a ++ encode_each encode_hold a.holds ++ r)
+      (put_inside encode_frame 8 no_frame a.frames (λ n g. frame_length (get_or a.frames n no_frame)) d x m e f (rw w.frames16 j) b q)
 
 -- WITHIN A STATE
 
 -- before the activities
-abbrev pub state-head : State → List ℕ
-state-head s =
-    (version ∷ s.activities ∷ s.clocks ∷ s.accumulators ∷ []) ++ bytes_of 4 s.steps ++ replicate 8 0 ++ encodeEach (bytes_of 4) s.cells ++ encodeEach encodeAccumulator s.accs
+abbrev pub state_head : State → List ℕ
+state_head s =
+    (version ∷ s.activities ∷ s.clocks ∷ s.accumulators ∷ []) ++ bytes_of 4 s.steps ++ replicate 8 0 ++ encode_each (bytes_of 4) s.cells ++ encode_each encode_accumulator s.accs
 
 module _ (s : State) (w : Fine s) where
-  pub state-head-length : length (state-head s) ≡ 464
-  state-head-length =
-      let c : length (encodeEach (bytes_of 4) s.cells) ≡ 64 = entries (bytes_of 4) 4 16 64 0 s.cells (λ n g. bytesOf-length 4 (get_or s.cells n 0)) w.cells16 refl in
-      let g : length (encodeEach encodeAccumulator s.accs) ≡ 384 = entries encodeAccumulator 24 16 384 noAccumulator s.accs (λ n g. accumulator-length (accumulator s n)) w.accs16 refl in
-      simp (length-append, bytesOf-length, c, g) refl
+  pub state_head_length : length (state_head s) ≡ 464
+  state_head_length =
+      let c : length (encode_each (bytes_of 4) s.cells) ≡ 64 = entries (bytes_of 4) 4 16 64 0 s.cells (λ n g. bytes_of_length 4 (get_or s.cells n 0)) w.cells16 refl in
+      let g : length (encode_each encode_accumulator s.accs) ≡ 384 = entries encode_accumulator 24 16 384 no_accumulator s.accs (λ n g. accumulator_length (accumulator s n)) w.accs16 refl in
+      simp (length-append, bytes_of_length, c, g) refl
 
-  act-lengths : (n : ℕ) → n < length s.acts → length (encodeActivity (get_or s.acts n absent)) ≡ 208
-  act-lengths n g = activity-length (act s n) (w.each n (rw w.acts64 at g))
+  act_lengths : (n : ℕ) → n < length s.acts → length (encode_activity (get_or s.acts n absent)) ≡ 208
+  act_lengths n g = activity_length (act s n) (w.each n (rw w.acts64 at g))
 
-  pub state-length : length (encodeState s) ≡ 13776
-  unfolding encodeState
-  state-length =
-      length-append (state-head s) (encodeEach encodeActivity s.acts) ∙ rw (state-head-length, entries encodeActivity 208 64 13312 absent s.acts act-lengths w.acts64 refl)
+  pub state_length : length (encode_state s) ≡ 13776
+  unfolding encode_state
+  state_length =
+      length-append (state_head s) (encode_each encode_activity s.acts) ∙ rw (state_head_length, entries encode_activity 208 64 13312 absent s.acts act_lengths w.acts64 refl)
 
   -- within one activity
-  pub part-act : (i a m : ℕ) → i < 64 → a + m ≤ 208 → part (encodeState s) (464 + (208 * i + a)) m ≡ part (encodeActivity (act s i)) a m
-  unfolding encodeState
-  part-act i a m j b =
-      ap (λ n. part (encodeState s) (n + (208 * i + a)) m) (sym state-head-length)
-      ∙ part-second (state-head s) (encodeEach encodeActivity s.acts) (208 * i + a) m
-      ∙ part-inside encodeActivity 208 absent s.acts act-lengths i a m (rw w.acts64 j) b
+  pub part_act : (i a m : ℕ) → i < 64 → a + m ≤ 208 → part (encode_state s) (464 + (208 * i + a)) m ≡ part (encode_activity (act s i)) a m
+  unfolding encode_state
+  part_act i a m j b =
+      ap (λ n. part (encode_state s) (n + (208 * i + a)) m) (sym state_head_length)
+      ∙ part_second (state_head s) (encode_each encode_activity s.acts) (208 * i + a) m
+      ∙ part_inside encode_activity 208 absent s.acts act_lengths i a m (rw w.acts64 j) b
 
-  pub put-act : (i a m : ℕ) (e : List ℕ) (x : Activity) → i < 64 → a + m ≤ 208 → put_mid a m (encodeActivity (act s i)) e ≡ encodeActivity x
-      → put_mid (464 + (208 * i + a)) m (encodeState s) e ≡ encodeState (withAct s i x)
-  unfolding encodeState withAct
-  put-act i a m e x j b q =
-      ap (λ n. put_mid (n + (208 * i + a)) m (encodeState s) e) (sym state-head-length)
-      ∙ put_second (state-head s) (encodeEach encodeActivity s.acts) e (208 * i + a) m
-      ∙ ap (λ r. state-head s ++ r) (put-inside encodeActivity 208 absent s.acts act-lengths i a m e x (rw w.acts64 j) b q)
+  pub put_act : (i a m : ℕ) (e : List ℕ) (x : Activity) → i < 64 → a + m ≤ 208 → put_mid a m (encode_activity (act s i)) e ≡ encode_activity x
+      → put_mid (464 + (208 * i + a)) m (encode_state s) e ≡ encode_state (with_act s i x)
+  unfolding encode_state with_act
+  put_act i a m e x j b q =
+      ap (λ n. put_mid (n + (208 * i + a)) m (encode_state s) e) (sym state_head_length)
+      ∙ put_second (state_head s) (encode_each encode_activity s.acts) e (208 * i + a) m
+      ∙ ap (λ r. state_head s ++ r) (put_inside encode_activity 208 absent s.acts act_lengths i a m e x (rw w.acts64 j) b q)
 
 -- WHAT FITS
 
-pub fine-act : {s : State} (i : ℕ) {x : Activity} → Fine s → FineActivity x → Fine (withAct s i x)
-unfolding withAct
-fine-act {s} i {x} w y =
+pub fine_act : {s : State} (i : ℕ) {x : Activity} → Fine s → FineActivity x → Fine (with_act s i x)
+unfolding with_act
+fine_act {s} i {x} w y =
     record {
       acts64 = length-set s.acts i x ∙ w.acts64;
       accs16 = w.accs16;
@@ -155,86 +155,86 @@ fine-act {s} i {x} w y =
     go n j (new e p) = rw p y
     go n j (old p) = rw p (w.each n j)
 
-pub fine-steps : {s : State} {n : ℕ} → Fine s → n < 2 ^ 16 → Fine (withSteps s n)
-unfolding withSteps
-fine-steps w h = record { acts64 = w.acts64; accs16 = w.accs16; cells16 = w.cells16; steps = h; cells = w.cells; values = w.values; each = w.each }
+pub fine_steps : {s : State} {n : ℕ} → Fine s → n < 2 ^ 16 → Fine (with_steps s n)
+unfolding with_steps
+fine_steps w h = record { acts64 = w.acts64; accs16 = w.accs16; cells16 = w.cells16; steps = h; cells = w.cells; values = w.values; each = w.each }
 
 module _ {a : Activity} (w : FineActivity a) where
-  pub fine-register : {v : ℕ} → v < 2 ^ 32 → FineActivity (withRegister a v)
-  fine-register h = record { frames16 = w.frames16; holds8 = w.holds8; names8 = w.names8; register = h; offsets = w.offsets; phases = w.phases }
+  pub fine_register : {v : ℕ} → v < 2 ^ 32 → FineActivity (with_register a v)
+  fine_register h = record { frames16 = w.frames16; holds8 = w.holds8; names8 = w.names8; register = h; offsets = w.offsets; phases = w.phases }
 
-  pub fine-status : {x : Status} → FineActivity (withStatus a x)
-  fine-status = record { frames16 = w.frames16; holds8 = w.holds8; names8 = w.names8; register = w.register; offsets = w.offsets; phases = w.phases }
+  pub fine_status : {x : Status} → FineActivity (with_status a x)
+  fine_status = record { frames16 = w.frames16; holds8 = w.holds8; names8 = w.names8; register = w.register; offsets = w.offsets; phases = w.phases }
 
-  pub fine-depth : {d : ℕ} → FineActivity (withDepth a d)
-  fine-depth = record { frames16 = w.frames16; holds8 = w.holds8; names8 = w.names8; register = w.register; offsets = w.offsets; phases = w.phases }
+  pub fine_depth : {d : ℕ} → FineActivity (with_depth a d)
+  fine_depth = record { frames16 = w.frames16; holds8 = w.holds8; names8 = w.names8; register = w.register; offsets = w.offsets; phases = w.phases }
 
-  pub fine-hold : (k : ℕ) (h : Hold) → h.phase < 2 ^ 16 → FineActivity (withHold a k h)
-  fine-hold k h l =
+  pub fine_hold : (k : ℕ) (h : Hold) → h.phase < 2 ^ 16 → FineActivity (with_hold a k h)
+  fine_hold k h l =
       record {
         frames16 = w.frames16;
         holds8 = length-set a.holds k h ∙ w.holds8;
         names8 = w.names8;
         register = w.register;
         offsets = w.offsets;
-        phases = λ n. go n (stored a.holds k h n noHold);
+        phases = λ n. go n (stored a.holds k h n no_hold);
       }
     where
-      go : (n : ℕ) → Stored a.holds k h n noHold → (get_or (set a.holds k h) n noHold).phase < 2 ^ 16
+      go : (n : ℕ) → Stored a.holds k h n no_hold → (get_or (set a.holds k h) n no_hold).phase < 2 ^ 16
       go n (new e p) = rw p l
       go n (old p) = rw p (w.phases n)
 
-  pub fine-frame : (d : ℕ) (f : Frame) → f.offset < 2 ^ 16 → FineActivity (withFrame a d f)
-  fine-frame d f l =
+  pub fine_frame : (d : ℕ) (f : Frame) → f.offset < 2 ^ 16 → FineActivity (with_frame a d f)
+  fine_frame d f l =
       record {
         frames16 = length-set a.frames d f ∙ w.frames16;
         holds8 = w.holds8;
         names8 = w.names8;
         register = w.register;
-        offsets = λ n. go n (stored a.frames d f n noFrame);
+        offsets = λ n. go n (stored a.frames d f n no_frame);
         phases = w.phases;
       }
     where
-      go : (n : ℕ) → Stored a.frames d f n noFrame → (get_or (set a.frames d f) n noFrame).offset < 2 ^ 16
+      go : (n : ℕ) → Stored a.frames d f n no_frame → (get_or (set a.frames d f) n no_frame).offset < 2 ^ 16
       go n (new e p) = rw p l
       go n (old p) = rw p (w.offsets n)
 
 -- an entry not in use
-pub zero-offset : (d n : ℕ) → (get_or (replicate n noFrame) d noFrame).offset < 2 ^ 16
-zero-offset d zero = omega arith
-zero-offset zero (suc n) = omega arith
-zero-offset (suc d) (suc n) = zero-offset d n
+pub zero_offset : (d n : ℕ) → (get_or (replicate n no_frame) d no_frame).offset < 2 ^ 16
+zero_offset d zero = omega arith
+zero_offset zero (suc n) = omega arith
+zero_offset (suc d) (suc n) = zero_offset d n
 
-pub zero-phase : (k n : ℕ) → (get_or (replicate n noHold) k noHold).phase < 2 ^ 16
-zero-phase k zero = omega arith
-zero-phase zero (suc n) = omega arith
-zero-phase (suc k) (suc n) = zero-phase k n
+pub zero_phase : (k n : ℕ) → (get_or (replicate n no_hold) k no_hold).phase < 2 ^ 16
+zero_phase k zero = omega arith
+zero_phase zero (suc n) = omega arith
+zero_phase (suc k) (suc n) = zero_phase k n
 
 -- READING AND WRITING
 
 pub lent_length : {b : List ℕ} {s : State} → Lent b s → length b ≡ 13776
-lent_length {s = s} l = ap length l.bytes ∙ state-length s l.fine
+lent_length {s = s} l = ap length l.bytes ∙ state_length s l.fine
 
 module _ {b : List ℕ} {s : State} (l : Lent b s) {i : ℕ} (j : i < 64) where
   -- a number in an activity
-  pub own-number : {at r : ℕ} (a k : ℕ) → Gets k b at r → at ≡ 464 + (208 * i + a) → a + k ≤ 208 → r ≡ number_of (part (encodeActivity (act s i)) a k)
-  own-number {at} a k g e h =
-      g.gets (lent_length l) (rw e (omega arith)) ∙ ap number_of (rw (e, l.bytes) (part-act s l.fine i a k j h))
+  pub own_number : {at r : ℕ} (a k : ℕ) → Gets k b at r → at ≡ 464 + (208 * i + a) → a + k ≤ 208 → r ≡ number_of (part (encode_activity (act s i)) a k)
+  own_number {at} a k g e h =
+      g.gets (lent_length l) (rw e (omega arith)) ∙ ap number_of (rw (e, l.bytes) (part_act s l.fine i a k j h))
 
   -- a part of one
-  pub own-part : {at : ℕ} (a k : ℕ) → at ≡ 464 + (208 * i + a) → a + k ≤ 208 → part b at k ≡ part (encodeActivity (act s i)) a k
-  own-part {at} a k e h = rw (e, l.bytes) (part-act s l.fine i a k j h)
+  pub own_part : {at : ℕ} (a k : ℕ) → at ≡ 464 + (208 * i + a) → a + k ≤ 208 → part b at k ≡ part (encode_activity (act s i)) a k
+  own_part {at} a k e h = rw (e, l.bytes) (part_act s l.fine i a k j h)
 
   -- an activity with a part written
-  pub own-write : {at : ℕ} (e : List ℕ) (a k : ℕ) (x : Activity) → at ≡ 464 + (208 * i + a) → a + k ≤ 208 → put_mid a k (encodeActivity (act s i)) e ≡ encodeActivity x → FineActivity x
-      → Lent (put_mid at k b e) (withAct s i x)
-  own-write {at} e a k x q h p y = record { bytes = rw (q, l.bytes) (put-act s l.fine i a k e x j h p); fine = fine-act i l.fine y }
+  pub own_write : {at : ℕ} (e : List ℕ) (a k : ℕ) (x : Activity) → at ≡ 464 + (208 * i + a) → a + k ≤ 208 → put_mid a k (encode_activity (act s i)) e ≡ encode_activity x → FineActivity x
+      → Lent (put_mid at k b e) (with_act s i x)
+  own_write {at} e a k x q h p y = record { bytes = rw (q, l.bytes) (put_act s l.fine i a k e x j h p); fine = fine_act i l.fine y }
 
   -- with a number written
   pub own_put : {c : List ℕ} {at v : ℕ} (a k : ℕ) (x : Activity) → Puts k b c at v → at ≡ 464 + (208 * i + a) → a + k ≤ 208
-      → put_mid a k (encodeActivity (act s i)) (bytes_of k v) ≡ encodeActivity x → FineActivity x → Lent c (withAct s i x)
+      → put_mid a k (encode_activity (act s i)) (bytes_of k v) ≡ encode_activity x → FineActivity x → Lent c (with_act s i x)
   own_put {c} {at} {v} a k x g q h p y =
-      subst (λ (r : List ℕ). Lent r (withAct s i x)) (sym (g.puts (lent_length l) (rw q (omega arith)))) (own-write (bytes_of k v) a k x q h p y)
+      subst (λ (r : List ℕ). Lent r (with_act s i x)) (sym (g.puts (lent_length l) (rw q (omega arith)))) (own_write (bytes_of k v) a k x q h p y)
 
   -- the activity fits
   pub mine : FineActivity (act s i)

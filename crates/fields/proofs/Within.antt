@@ -8,7 +8,7 @@ use mathlib.Core.Path.{◌≡◌, refl, sym, ap, ◌∙◌}
 use lib.ListN.{length, get_or, take, drop, set, length-append, length-drop}
 use lib.Seq.{drop_at, set_split, drop-drop, drop-cons, take-append-le, drop-append-le, take-append-add, drop-append-add}
 use borrow.Rule.Slice.PartMut.{put_mid}
-use Rattle.encoding.specs.Bytes.{bytes_of, number_of, part, encodeEach}
+use Rattle.encoding.specs.Bytes.{bytes_of, number_of, part, encode_each}
 use Rattle.encoding.proofs.FieldLaws.{sized}
 
 -- within the first of two
@@ -23,54 +23,54 @@ put_second p q e a k =
     rw (take-append-add p q a, drop-append-add p q a) (append_assoc p (take a q) (e ++ drop k (drop a q)))
 
 -- one entry among many
-pub put-entry : {A : Type 0} (f : A → List ℕ) (k : ℕ) → ((x : A) → length (f x) ≡ k) → (l : List A) (i : ℕ) (x : A) → i < length l
-    → put_mid (k * i) k (encodeEach f l) (f x) ≡ encodeEach f (set l i x)
-unfolding encodeEach
-put-entry f k h [] i x j = absurd (not-suc-le-zero j)
-put-entry f k h (y ∷ l) zero x j = rw mul-zero (ap (λ r. f x ++ r) (drop_at (f y) (encodeEach f l) k (h y)))
-put-entry f k h (y ∷ l) (suc i) x j =
+pub put_entry : {A : Type 0} (f : A → List ℕ) (k : ℕ) → ((x : A) → length (f x) ≡ k) → (l : List A) (i : ℕ) (x : A) → i < length l
+    → put_mid (k * i) k (encode_each f l) (f x) ≡ encode_each f (set l i x)
+unfolding encode_each
+put_entry f k h [] i x j = absurd (not-suc-le-zero j)
+put_entry f k h (y ∷ l) zero x j = rw mul-zero (ap (λ r. f x ++ r) (drop_at (f y) (encode_each f l) k (h y)))
+put_entry f k h (y ∷ l) (suc i) x j =
     let e : k * suc i ≡ length (f y) + k * i = rw (mul-suc, h y) (add_comm (k * i) k) in
-    rw e (put_second (f y) (encodeEach f l) (f x) (k * i) k ∙ ap (λ r. f y ++ r) (put-entry f k h l i x (le_of_suc-le-suc j)))
+    rw e (put_second (f y) (encode_each f l) (f x) (k * i) k ∙ ap (λ r. f y ++ r) (put_entry f k h l i x (le_of_suc-le-suc j)))
 
 -- within one entry among many, each of its own length
-pub put-inside : {A : Type 0} (f : A → List ℕ) (k : ℕ) (d : A) (l : List A) → ((n : ℕ) → n < length l → length (f (get_or l n d)) ≡ k) → (i a m : ℕ) (e : List ℕ) (x : A) → i < length l
-    → a + m ≤ k → put_mid a m (f (get_or l i d)) e ≡ f x → put_mid (k * i + a) m (encodeEach f l) e ≡ encodeEach f (set l i x)
-unfolding encodeEach
-put-inside f k d [] h i a m e x j b q = absurd (not-suc-le-zero j)
-put-inside f k d (y ∷ l) h zero a m e x j b q =
+pub put_inside : {A : Type 0} (f : A → List ℕ) (k : ℕ) (d : A) (l : List A) → ((n : ℕ) → n < length l → length (f (get_or l n d)) ≡ k) → (i a m : ℕ) (e : List ℕ) (x : A) → i < length l
+    → a + m ≤ k → put_mid a m (f (get_or l i d)) e ≡ f x → put_mid (k * i + a) m (encode_each f l) e ≡ encode_each f (set l i x)
+unfolding encode_each
+put_inside f k d [] h i a m e x j b q = absurd (not-suc-le-zero j)
+put_inside f k d (y ∷ l) h zero a m e x j b q =
     let z : k * 0 + a ≡ a = rw mul-zero (zero-add a) in
-    rw z (put_first (f y) (encodeEach f l) e a m (rw (h 0 j) b) ∙ ap (λ r. r ++ encodeEach f l) q)
-put-inside f k d (y ∷ l) h (suc i) a m e x j b q =
+    rw z (put_first (f y) (encode_each f l) e a m (rw (h 0 j) b) ∙ ap (λ r. r ++ encode_each f l) q)
+put_inside f k d (y ∷ l) h (suc i) a m e x j b q =
     let n : length (f y) ≡ k = h 0 (zero-lt-suc (length l)) in
     let z : k * suc i + a ≡ length (f y) + (k * i + a) = rw (mul-suc, n) (omega arith) in
-    rw z (put_second (f y) (encodeEach f l) e (k * i + a) m ∙ ap (λ r. f y ++ r) (put-inside f k d l (λ n g. h (suc n) (suc-le-suc g)) i a m e x (le_of_suc-le-suc j) b q))
+    rw z (put_second (f y) (encode_each f l) e (k * i + a) m ∙ ap (λ r. f y ++ r) (put_inside f k d l (λ n g. h (suc n) (suc-le-suc g)) i a m e x (le_of_suc-le-suc j) b q))
 
 -- the bytes of all
-pub each-length : {A : Type 0} (f : A → List ℕ) (k : ℕ) (d : A) (l : List A) → ((n : ℕ) → n < length l → length (f (get_or l n d)) ≡ k) → length (encodeEach f l) ≡ k * length l
-unfolding encodeEach
-each-length f k d [] h = sym (mul-zero k)
-each-length f k d (y ∷ l) h =
-    length-append (f y) (encodeEach f l) ∙ rw (h 0 (zero-lt-suc (length l)), each-length f k d l (λ n g. h (suc n) (suc-le-suc g)), mul-suc) (add_comm k (k * length l))
+pub each_length : {A : Type 0} (f : A → List ℕ) (k : ℕ) (d : A) (l : List A) → ((n : ℕ) → n < length l → length (f (get_or l n d)) ≡ k) → length (encode_each f l) ≡ k * length l
+unfolding encode_each
+each_length f k d [] h = sym (mul-zero k)
+each_length f k d (y ∷ l) h =
+    length-append (f y) (encode_each f l) ∙ rw (h 0 (zero-lt-suc (length l)), each_length f k d l (λ n g. h (suc n) (suc-le-suc g)), mul-suc) (add_comm k (k * length l))
 
 -- READING
 
-pub part-first : (q r : List ℕ) (a k : ℕ) → a + k ≤ length q → part (q ++ r) a k ≡ part q a k
-part-first q r a k h = rw (drop-append-le a q r (omega arith)) (take-append-le k (drop a q) r (rw length-drop (omega arith)))
+pub part_first : (q r : List ℕ) (a k : ℕ) → a + k ≤ length q → part (q ++ r) a k ≡ part q a k
+part_first q r a k h = rw (drop-append-le a q r (omega arith)) (take-append-le k (drop a q) r (rw length-drop (omega arith)))
 
-pub part-second : (p q : List ℕ) (a k : ℕ) → part (p ++ q) (length p + a) k ≡ part q a k
-part-second p q a k = rw (drop-append-add p q a)
+pub part_second : (p q : List ℕ) (a k : ℕ) → part (p ++ q) (length p + a) k ≡ part q a k
+part_second p q a k = rw (drop-append-add p q a)
 
-pub part-inside : {A : Type 0} (f : A → List ℕ) (k : ℕ) (d : A) (l : List A) → ((n : ℕ) → n < length l → length (f (get_or l n d)) ≡ k) → (i a m : ℕ) → i < length l → a + m ≤ k
-    → part (encodeEach f l) (k * i + a) m ≡ part (f (get_or l i d)) a m
-unfolding encodeEach
-part-inside f k d [] h i a m j b = absurd (not-suc-le-zero j)
-part-inside f k d (y ∷ l) h zero a m j b =
+pub part_inside : {A : Type 0} (f : A → List ℕ) (k : ℕ) (d : A) (l : List A) → ((n : ℕ) → n < length l → length (f (get_or l n d)) ≡ k) → (i a m : ℕ) → i < length l → a + m ≤ k
+    → part (encode_each f l) (k * i + a) m ≡ part (f (get_or l i d)) a m
+unfolding encode_each
+part_inside f k d [] h i a m j b = absurd (not-suc-le-zero j)
+part_inside f k d (y ∷ l) h zero a m j b =
     let z : k * 0 + a ≡ a = rw mul-zero (zero-add a) in
-    rw z (part-first (f y) (encodeEach f l) a m (rw (h 0 j) b))
-part-inside f k d (y ∷ l) h (suc i) a m j b =
+    rw z (part_first (f y) (encode_each f l) a m (rw (h 0 j) b))
+part_inside f k d (y ∷ l) h (suc i) a m j b =
     let n : length (f y) ≡ k = h 0 (zero-lt-suc (length l)) in
     let z : k * suc i + a ≡ length (f y) + (k * i + a) = rw (mul-suc, n) (omega arith) in
-    rw z (part-second (f y) (encodeEach f l) (k * i + a) m ∙ part-inside f k d l (λ n g. h (suc n) (suc-le-suc g)) i a m (le_of_suc-le-suc j) b)
+    rw z (part_second (f y) (encode_each f l) (k * i + a) m ∙ part_inside f k d l (λ n g. h (suc n) (suc-le-suc g)) i a m (le_of_suc-le-suc j) b)
 
 -- SINGLE BYTES
 
@@ -82,34 +82,34 @@ put_one b at v h l =
     rw (q, drop-drop, add-one at) (set_split b at v h)
 
 -- a byte that is read
-pub get-one : (b : List ℕ) (at : ℕ) → at < length b → get_or b at 0 ≡ number_of (part b at 1)
+pub get_one : (b : List ℕ) (at : ℕ) → at < length b → get_or b at 0 ≡ number_of (part b at 1)
 unfolding number_of
-get-one b at h = rw (drop-cons b at 0 h) (omega arith)
+get_one b at h = rw (drop-cons b at 0 h) (omega arith)
 
 -- PARTS
 
-turn-off : (at k : ℕ) → at + k - at ≡ k
-turn-off at k = omega arith
+turn_off : (at k : ℕ) → at + k - at ≡ k
+turn_off at k = omega arith
 
 -- a number that is read
-pub get-part : {x : ℕ} (b : List ℕ) (at k : ℕ) → x ≡ number_of (take (at + k - at) (drop at b)) → x ≡ number_of (part b at k)
-get-part b at k e = e ∙ rw (turn-off at k)
+pub get_part : {x : ℕ} (b : List ℕ) (at k : ℕ) → x ≡ number_of (take (at + k - at) (drop at b)) → x ≡ number_of (part b at k)
+get_part b at k e = e ∙ rw (turn_off at k)
 
 -- a number that is written
-pub put-part : (x : ℕ) (b : List ℕ) (at k : ℕ) (e : List ℕ) → e ≡ bytes_of (length (take (at + k - at) (drop at b))) x → at + k ≤ length b → put_mid at (at + k - at) b e ≡ put_mid at k b (bytes_of k x)
-put-part x b at k e h l = rw (h, turn-off at k, sized b at k k refl l)
+pub put_part : (x : ℕ) (b : List ℕ) (at k : ℕ) (e : List ℕ) → e ≡ bytes_of (length (take (at + k - at) (drop at b))) x → at + k ≤ length b → put_mid at (at + k - at) b e ≡ put_mid at k b (bytes_of k x)
+put_part x b at k e h l = rw (h, turn_off at k, sized b at k k refl l)
 
 -- two bytes that are read
-pub get-two : (b : List ℕ) (at x y : ℕ) → at + 2 ≤ length b → x ≡ get_or b at 0 → y ≡ get_or b (at + 1) 0 → x + 256 * y ≡ number_of (part b at 2)
+pub get_two : (b : List ℕ) (at x y : ℕ) → at + 2 ≤ length b → x ≡ get_or b at 0 → y ≡ get_or b (at + 1) 0 → x + 256 * y ≡ number_of (part b at 2)
 unfolding number_of
-get-two b at x y h e f =
+get_two b at x y h e f =
     let g : at < length b = omega arith in
     let k : suc at < length b = omega arith in
     rw (drop-cons b at 0 g, drop-cons b (suc at) 0 k, e, f, add-one at) (omega arith)
 
 -- a part that is lent
-pub lent-part : (at k : ℕ) (b : List ℕ) → take (at + k - at) (drop at b) ≡ part b at k
-lent-part at k b = rw (turn-off at k)
+pub lent_part : (at k : ℕ) (b : List ℕ) → take (at + k - at) (drop at b) ≡ part b at k
+lent_part at k b = rw (turn_off at k)
 
 pub lent_back : (at k : ℕ) (b e : List ℕ) → put_mid at (at + k - at) b e ≡ put_mid at k b e
-lent_back at k b e = rw (turn-off at k)
+lent_back at k b e = rw (turn_off at k)

@@ -7,10 +7,10 @@ use Rattle.rules.specs.declared.state.Status.{Status}
 use Rattle.rules.specs.declared.state.Activity.{Activity}
 use Rattle.rules.specs.declared.state.Accumulator.{Accumulator}
 use Rattle.rules.specs.declared.state.State.{State}
-use Rattle.rules.specs.State.{noFrames, noHolds, act, frame, hold, accumulator}
-use Rattle.rules.specs.Effects.{withFrames, withHolds, withNames}
+use Rattle.rules.specs.State.{no_frames, no_holds, act, frame, hold, accumulator}
+use Rattle.rules.specs.Effects.{with_frames, with_holds, with_names}
 use Rattle.encoding.specs.Bytes.{bytes_of, number_of, part}
-use Rattle.encoding.specs.Encode.{encodeState}
+use Rattle.encoding.specs.Encode.{encode_state}
 
 -- BYTES OF A STATE
 
@@ -35,13 +35,13 @@ pub record Fine (s : State) : Type 0 where
 
 -- the bytes are those of the state
 pub record Lent (b : List ℕ) (s : State) : Type 0 where
-  pub bytes : b ≡ encodeState s
+  pub bytes : b ≡ encode_state s
   pub fine : Fine s
 
 -- A STATE WITH ONE PART CHANGED
 
-unfoldable pub withAct : State → ℕ → Activity → State
-withAct s i a =
+unfoldable pub with_act : State → ℕ → Activity → State
+with_act s i a =
     record {
       cells = s.cells;
       acts = set s.acts i a;
@@ -52,8 +52,8 @@ withAct s i a =
       accumulators = s.accumulators;
     }
 
-unfoldable pub withSteps : State → ℕ → State
-withSteps s n =
+unfoldable pub with_steps : State → ℕ → State
+with_steps s n =
     record {
       cells = s.cells;
       acts = s.acts;
@@ -64,8 +64,8 @@ withSteps s n =
       accumulators = s.accumulators;
     }
 
-unfoldable pub withAcc : State → ℕ → Accumulator → State
-withAcc s n c =
+unfoldable pub with_acc : State → ℕ → Accumulator → State
+with_acc s n c =
     record {
       cells = s.cells;
       acts = s.acts;
@@ -76,8 +76,8 @@ withAcc s n c =
       accumulators = s.accumulators;
     }
 
-unfoldable pub withActivities : State → ℕ → State
-withActivities s n =
+unfoldable pub with_activities : State → ℕ → State
+with_activities s n =
     record {
       cells = s.cells;
       acts = s.acts;
@@ -88,8 +88,8 @@ withActivities s n =
       accumulators = s.accumulators;
     }
 
-unfoldable pub withClocks : State → ℕ → State
-withClocks s n =
+unfoldable pub with_clocks : State → ℕ → State
+with_clocks s n =
     record {
       cells = s.cells;
       acts = s.acts;
@@ -100,8 +100,8 @@ withClocks s n =
       accumulators = s.accumulators;
     }
 
-unfoldable pub withAccumulators : State → ℕ → State
-withAccumulators s n =
+unfoldable pub with_accumulators : State → ℕ → State
+with_accumulators s n =
     record {
       cells = s.cells;
       acts = s.acts;
@@ -112,8 +112,8 @@ withAccumulators s n =
       accumulators = n;
     }
 
-unfoldable pub withCell : State → ℕ → ℕ → State
-withCell s d v =
+unfoldable pub with_cell : State → ℕ → ℕ → State
+with_cell s d v =
     record {
       cells = set s.cells d v;
       acts = s.acts;
@@ -124,8 +124,8 @@ withCell s d v =
       accumulators = s.accumulators;
     }
 
-abbrev pub withSpawner : Activity → ℕ → Activity
-withSpawner a spawner =
+abbrev pub with_spawner : Activity → ℕ → Activity
+with_spawner a spawner =
     record {
       register = a.register;
       frames = a.frames;
@@ -136,24 +136,24 @@ withSpawner a spawner =
       depth = a.depth;
     }
 
-abbrev pub withName : Activity → ℕ → ℕ → Activity
-withName a n v = withNames a (set a.accumulators n v)
+abbrev pub with_name : Activity → ℕ → ℕ → Activity
+with_name a n v = with_names a (set a.accumulators n v)
 
 -- no bodies and no clocks
 abbrev pub cleared : Activity → Activity
-cleared a = withFrames (withHolds a a.status noHolds) a.depth noFrames
+cleared a = with_frames (with_holds a a.status no_holds) a.depth no_frames
 
-abbrev pub withStatus : Activity → Status → Activity
-withStatus a status = withHolds a status a.holds
+abbrev pub with_status : Activity → Status → Activity
+with_status a status = with_holds a status a.holds
 
-abbrev pub withHold : Activity → ℕ → Hold → Activity
-withHold a k h = withHolds a a.status (set a.holds k h)
+abbrev pub with_hold : Activity → ℕ → Hold → Activity
+with_hold a k h = with_holds a a.status (set a.holds k h)
 
-abbrev pub withFrame : Activity → ℕ → Frame → Activity
-withFrame a d f = withFrames a a.depth (set a.frames d f)
+abbrev pub with_frame : Activity → ℕ → Frame → Activity
+with_frame a d f = with_frames a a.depth (set a.frames d f)
 
-abbrev pub withDepth : Activity → ℕ → Activity
-withDepth a d = withFrames a d a.frames
+abbrev pub with_depth : Activity → ℕ → Activity
+with_depth a d = with_frames a d a.frames
 
 abbrev pub onward : Frame → ℕ → Frame
 onward f offset = record { offset = offset; body = f.body; runs = f.runs; first = f.first }
@@ -182,4 +182,4 @@ pub record Writes (f : State → State) (b c : List ℕ) : Type 0 where
 
 -- of the state with activity i changed so
 pub record WritesAct (f : Activity → Activity) (b c : List ℕ) (i : ℕ) : Type 0 where
-  pub writes : (s : State) → Lent b s → i < 64 → Lent c (withAct s i (f (act s i)))
+  pub writes : (s : State) → Lent b s → i < 64 → Lent c (with_act s i (f (act s i)))

@@ -2,8 +2,8 @@
 ghost use Rattle.std.specs.Prelude.{◌<◌};
 ghost use Rattle.rules.specs.declared.state.State.{State};
 ghost use Rattle.rules.specs.State.{accumulator};
-ghost use Rattle.rules.specs.Effects.{withValue};
-ghost use Rattle.fields.specs.Lent.{Reads, Writes, withAcc};
+ghost use Rattle.rules.specs.Effects.{with_value};
+ghost use Rattle.fields.specs.Lent.{Reads, Writes, with_acc};
 
 use super::bytes::{get1, get4, put4};
 use parts::empty::no_accumulator;
@@ -28,7 +28,7 @@ pub fn accumulator_at(state: &[u8], n: usize) -> Accumulator
 }
 
 pub fn put_value(state: &mut [u8], n: usize, v: u32)
-    ensures { n < 16 → Writes (λ (s : State). withAcc s n (withValue (accumulator s n) v)) state.old state.new }
+    ensures { n < 16 → Writes (λ (s : State). with_acc s n (with_value (accumulator s n) v)) state.old state.new }
 {
     if 16 <= n {
         return;
@@ -37,7 +37,7 @@ pub fn put_value(state: &mut [u8], n: usize, v: u32)
 }
 
 pub fn put_accumulator(state: &mut [u8], n: usize, a: Accumulator)
-    ensures { n < 16 → Writes (λ (s : State). withAcc s n a) state.old state.new }
+    ensures { n < 16 → Writes (λ (s : State). with_acc s n a) state.old state.new }
 {
     if state.len() != 13776 {
         return;

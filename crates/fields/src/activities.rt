@@ -2,8 +2,8 @@
 ghost use Rattle.std.specs.Prelude.{◌<◌};
 ghost use Rattle.rules.specs.declared.state.Activity.{Activity};
 ghost use Rattle.rules.specs.State.{bound};
-ghost use Rattle.rules.specs.Effects.{withRegister};
-ghost use Rattle.fields.specs.Lent.{ReadsAct, WritesAct, withStatus, withDepth, withSpawner, withName, cleared};
+ghost use Rattle.rules.specs.Effects.{with_register};
+ghost use Rattle.fields.specs.Lent.{ReadsAct, WritesAct, with_status, with_depth, with_spawner, with_name, cleared};
 
 use super::bytes::{get1, get4, put1, put2, put4, wide};
 use encoding::activities::{fault_byte, status_byte, status_of};
@@ -20,7 +20,7 @@ pub fn register_at(state: &[u8], i: usize) -> u32
 }
 
 pub fn put_register(state: &mut [u8], i: usize, v: u32)
-    ensures { WritesAct (λ (a : Activity). withRegister a v) state.old state.new i }
+    ensures { WritesAct (λ (a : Activity). with_register a v) state.old state.new i }
 {
     if 64 <= i {
         return;
@@ -39,7 +39,7 @@ pub fn status_at(state: &[u8], i: usize) -> Status
 }
 
 pub fn put_status(state: &mut [u8], i: usize, status: Status)
-    ensures { WritesAct (λ (a : Activity). withStatus a status) state.old state.new i }
+    ensures { WritesAct (λ (a : Activity). with_status a status) state.old state.new i }
 {
     if 64 <= i {
         return;
@@ -58,7 +58,7 @@ pub fn depth_at(state: &[u8], i: usize) -> u8
 }
 
 pub fn put_depth(state: &mut [u8], i: usize, d: u8)
-    ensures { WritesAct (λ (a : Activity). withDepth a d) state.old state.new i }
+    ensures { WritesAct (λ (a : Activity). with_depth a d) state.old state.new i }
 {
     if 64 <= i {
         return;
@@ -76,7 +76,7 @@ pub fn spawner_at(state: &[u8], i: usize) -> u8
 }
 
 pub fn put_spawner(state: &mut [u8], i: usize, w: u8)
-    ensures { WritesAct (λ (a : Activity). withSpawner a w) state.old state.new i }
+    ensures { WritesAct (λ (a : Activity). with_spawner a w) state.old state.new i }
 {
     if 64 <= i {
         return;
@@ -97,7 +97,7 @@ pub fn name_at(state: &[u8], i: usize, n: usize) -> u8
 }
 
 pub fn put_name(state: &mut [u8], i: usize, n: usize, v: u8)
-    ensures { n < 8 → WritesAct (λ (a : Activity). withName a n v) state.old state.new i }
+    ensures { n < 8 → WritesAct (λ (a : Activity). with_name a n v) state.old state.new i }
 {
     if 64 <= i {
         return;

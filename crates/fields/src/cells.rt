@@ -1,7 +1,7 @@
 // The cells.
 ghost use Rattle.std.specs.Prelude.{◌<◌, get_or};
 ghost use Rattle.rules.specs.declared.state.State.{State};
-ghost use Rattle.fields.specs.Lent.{Reads, Writes, withCell};
+ghost use Rattle.fields.specs.Lent.{Reads, Writes, with_cell};
 
 use super::bytes::{get4, put4};
 
@@ -15,7 +15,7 @@ pub fn cell_at(state: &[u8], d: usize) -> u32
 }
 
 pub fn put_cell(state: &mut [u8], d: usize, v: u32)
-    ensures { d < 16 → Writes (λ (s : State). withCell s d v) state.old state.new }
+    ensures { d < 16 → Writes (λ (s : State). with_cell s d v) state.old state.new }
 {
     if 16 <= d {
         return;

@@ -1,6 +1,6 @@
 // What a state counts: the steps taken, and the activities, clocks and accumulators made.
 ghost use Rattle.rules.specs.declared.state.State.{State};
-ghost use Rattle.fields.specs.Lent.{Reads, Writes, withSteps, withActivities, withClocks, withAccumulators};
+ghost use Rattle.fields.specs.Lent.{Reads, Writes, with_steps, with_activities, with_clocks, with_accumulators};
 
 use super::bytes::{get1, get2, put1, put4};
 
@@ -11,7 +11,7 @@ pub fn steps_of(state: &[u8]) -> u16
 }
 
 pub fn put_steps(state: &mut [u8], n: u16)
-    ensures { Writes (λ (s : State). withSteps s n) state.old state.new }
+    ensures { Writes (λ (s : State). with_steps s n) state.old state.new }
 {
     put4(state, 4, n as u32);
 }
@@ -23,7 +23,7 @@ pub fn activities_of(state: &[u8]) -> u8
 }
 
 pub fn put_activities(state: &mut [u8], n: u8)
-    ensures { Writes (λ (s : State). withActivities s n) state.old state.new }
+    ensures { Writes (λ (s : State). with_activities s n) state.old state.new }
 {
     put1(state, 1, n);
 }
@@ -35,7 +35,7 @@ pub fn clocks_of(state: &[u8]) -> u8
 }
 
 pub fn put_clocks(state: &mut [u8], n: u8)
-    ensures { Writes (λ (s : State). withClocks s n) state.old state.new }
+    ensures { Writes (λ (s : State). with_clocks s n) state.old state.new }
 {
     put1(state, 2, n);
 }
@@ -47,7 +47,7 @@ pub fn accumulators_of(state: &[u8]) -> u8
 }
 
 pub fn put_accumulators(state: &mut [u8], n: u8)
-    ensures { Writes (λ (s : State). withAccumulators s n) state.old state.new }
+    ensures { Writes (λ (s : State). with_accumulators s n) state.old state.new }
 {
     put1(state, 3, n);
 }

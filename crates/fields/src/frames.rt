@@ -2,7 +2,7 @@
 ghost use Rattle.std.specs.Prelude.{◌<◌};
 ghost use Rattle.rules.specs.declared.state.Activity.{Activity};
 ghost use Rattle.rules.specs.State.{frame};
-ghost use Rattle.fields.specs.Lent.{ReadsAct, WritesAct, withFrame, onward};
+ghost use Rattle.fields.specs.Lent.{ReadsAct, WritesAct, with_frame, onward};
 
 use super::bytes::{get2, put2};
 use parts::empty::no_frame;
@@ -25,7 +25,7 @@ pub fn frame_at(state: &[u8], i: usize, d: usize) -> Frame
 }
 
 pub fn put_frame(state: &mut [u8], i: usize, d: usize, f: Frame)
-    ensures { d < 16 → WritesAct (λ (a : Activity). withFrame a d f) state.old state.new i }
+    ensures { d < 16 → WritesAct (λ (a : Activity). with_frame a d f) state.old state.new i }
 {
     if state.len() != 13776 {
         return;
@@ -53,7 +53,7 @@ pub fn offset_at(state: &[u8], i: usize, d: usize) -> u16
 }
 
 pub fn put_offset(state: &mut [u8], i: usize, d: usize, offset: u16)
-    ensures { d < 16 → WritesAct (λ (a : Activity). withFrame a d (onward (frame a d) offset)) state.old state.new i }
+    ensures { d < 16 → WritesAct (λ (a : Activity). with_frame a d (onward (frame a d) offset)) state.old state.new i }
 {
     if 64 <= i {
         return;

@@ -2,7 +2,7 @@
 ghost use Rattle.std.specs.Prelude.{◌<◌};
 ghost use Rattle.rules.specs.declared.state.Activity.{Activity};
 ghost use Rattle.rules.specs.State.{hold};
-ghost use Rattle.fields.specs.Lent.{ReadsAct, WritesAct, withHold};
+ghost use Rattle.fields.specs.Lent.{ReadsAct, WritesAct, with_hold};
 
 use super::bytes::{get1, get2};
 use encoding::holds::registration_of;
@@ -30,7 +30,7 @@ pub fn hold_at(state: &[u8], i: usize, k: usize) -> Hold
 }
 
 pub fn put_hold(state: &mut [u8], i: usize, k: usize, h: Hold)
-    ensures { k < 8 → WritesAct (λ (a : Activity). withHold a k h) state.old state.new i }
+    ensures { k < 8 → WritesAct (λ (a : Activity). with_hold a k h) state.old state.new i }
 {
     if state.len() != 13776 {
         return;

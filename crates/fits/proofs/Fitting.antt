@@ -12,19 +12,19 @@ use Rattle.program.proofs.Basic.{Bytes}
 use Rattle.program.proofs.ShapeLaws.{accepted, numbered}
 use Rattle.rules.specs.declared.state.Activity.{Activity}
 use Rattle.rules.specs.declared.state.State.{State}
-use Rattle.rules.specs.State.{noFrame, noHold, noFrames, noActivity, noAccumulator, zeroState, absent}
-use Rattle.rules.specs.Effects.{withFrames}
-use Rattle.rules.specs.Steps.{base, startState, startWith, start, step}
+use Rattle.rules.specs.State.{no_frame, no_hold, no_frames, no_activity, no_accumulator, zero_state, absent}
+use Rattle.rules.specs.Effects.{with_frames}
+use Rattle.rules.specs.Steps.{base, start_state, start_with, start, step}
 use Rattle.rules.specs.Runs.{run_from, run}
 use Rattle.rules.proofs.Sized.{SizedActivity, Sized}
-use Rattle.rules.proofs.Sizes.{step-sized}
+use Rattle.rules.proofs.Sizes.{step_sized}
 use Rattle.rules.proofs.Turn.{turn}
 use Rattle.rules.proofs.StepLaws.{Outcome, unfits, refuses, overflows, takes, outcome}
 use Rattle.rules.proofs.WellFormedFacts.{facts}
-use Rattle.rules.proofs.WellFormedStep.{step-wellFormed}
+use Rattle.rules.proofs.WellFormedStep.{step_well_formed}
 use Rattle.encoding.proofs.Fits.{FitsFrame, FitsHold, FitsAccumulator, FitsActivity, FitsState}
-use Rattle.fits.proofs.Small.{Four, Small, put, small-step}
-use Rattle.fits.proofs.Formed.{formed-fits}
+use Rattle.fits.proofs.Small.{Four, Small, put, small_step}
+use Rattle.fits.proofs.Formed.{formed_fits}
 
 -- What the laws of the encoding ask of a state.
 pub record Fitting (s : State) : Type 0 where
@@ -39,25 +39,25 @@ all P zero a d h k j = k
 all P (suc n) a d h k zero = h
 all P (suc n) a d h k (suc j) = all P n a d h k j
 
-frame-zero : FitsFrame noFrame
-frame-zero = record { offset = omega arith; body = omega arith; runs = omega arith; first = omega arith }
+frame_zero : FitsFrame no_frame
+frame_zero = record { offset = omega arith; body = omega arith; runs = omega arith; first = omega arith }
 
-hold-zero : FitsHold noHold
-hold-zero = record { phase = omega arith; clock = omega arith }
+hold_zero : FitsHold no_hold
+hold_zero = record { phase = omega arith; clock = omega arith }
 
-accumulator-zero : FitsAccumulator noAccumulator
-accumulator-zero = record { value = omega arith; owner = omega arith }
+accumulator_zero : FitsAccumulator no_accumulator
+accumulator_zero = record { value = omega arith; owner = omega arith }
 
 -- An activity without clocks and names, its frames all 0.
-bare : (depth : ℕ) → depth ≤ 1 → FitsActivity (withFrames noActivity depth noFrames)
+bare : (depth : ℕ) → depth ≤ 1 → FitsActivity (with_frames no_activity depth no_frames)
 bare depth h =
     record {
       register = omega arith;
       spawner = omega arith;
       depth = omega arith;
       names = λ n l. all (λ (x : ℕ). x < 2 ^ 8) 8 0 0 (omega arith) (omega arith) n;
-      holds = λ k l. all FitsHold 8 noHold noHold hold-zero hold-zero k;
-      frames = λ d l. all FitsFrame 16 noFrame noFrame frame-zero frame-zero d;
+      holds = λ k l. all FitsHold 8 no_hold no_hold hold_zero hold_zero k;
+      frames = λ d l. all FitsFrame 16 no_frame no_frame frame_zero frame_zero d;
     }
 
 -- What stands past the end.
@@ -68,16 +68,16 @@ gone =
       spawner = omega arith;
       depth = omega arith;
       names = λ n l. omega arith;
-      holds = λ k l. hold-zero;
-      frames = λ d l. frame-zero;
+      holds = λ k l. hold_zero;
+      frames = λ d l. frame_zero;
     }
 
-bare-sized : (depth : ℕ) → SizedActivity (withFrames noActivity depth noFrames)
-bare-sized depth = record { frames16 = refl; holds8 = refl; names8 = refl }
+bare_sized : (depth : ℕ) → SizedActivity (with_frames no_activity depth no_frames)
+bare_sized depth = record { frames16 = refl; holds8 = refl; names8 = refl }
 
 -- Where at most one activity was spawned, and nothing done.
 first : (acts : List Activity) (count : ℕ) → count ≤ 1 → length acts ≡ 64 → ((i : ℕ) → i < 64 → SizedActivity (get_or acts i absent)) → ((i : ℕ) → FitsActivity (get_or acts i absent))
-    → Fitting (record { cells = zeroState.cells; acts = acts; accs = zeroState.accs; steps = 0; activities = count; clocks = 0; accumulators = 0 })
+    → Fitting (record { cells = zero_state.cells; acts = acts; accs = zero_state.accs; steps = 0; activities = count; clocks = 0; accumulators = 0 })
 first acts count l n sized fits =
     record {
       sized = record { acts64 = n; accs16 = refl; cells16 = refl; each = sized };
@@ -88,37 +88,37 @@ first acts count l n sized fits =
             clocks = omega arith;
             accumulators = omega arith;
             cells = λ x l. all Four 16 0 0 (omega arith) (omega arith) x;
-            accs = λ k l. all FitsAccumulator 16 noAccumulator noAccumulator accumulator-zero accumulator-zero k;
+            accs = λ k l. all FitsAccumulator 16 no_accumulator no_accumulator accumulator_zero accumulator_zero k;
             acts = λ i l. fits i;
           };
     }
 
-nobody-fits : (i : ℕ) → FitsActivity (get_or (replicate 64 noActivity) i absent)
-nobody-fits = all FitsActivity 64 noActivity absent (bare 0 (omega arith)) gone
+nobody_fits : (i : ℕ) → FitsActivity (get_or (replicate 64 no_activity) i absent)
+nobody_fits = all FitsActivity 64 no_activity absent (bare 0 (omega arith)) gone
 
-nobody-sized : (i : ℕ) → i < 64 → SizedActivity (get_or (replicate 64 noActivity) i absent)
-nobody-sized = sizes 64
+nobody_sized : (i : ℕ) → i < 64 → SizedActivity (get_or (replicate 64 no_activity) i absent)
+nobody_sized = sizes 64
   where
-    sizes : (n i : ℕ) → i < n → SizedActivity (get_or (replicate n noActivity) i absent)
+    sizes : (n i : ℕ) → i < n → SizedActivity (get_or (replicate n no_activity) i absent)
     sizes zero i l = absurd (omega arith)
-    sizes (suc n) zero l = bare-sized 0
+    sizes (suc n) zero l = bare_sized 0
     sizes (suc n) (suc i) l = sizes n i (omega arith)
 
 -- The state of zeros, and the start state.
-pub zero-fits : Fitting zeroState
-zero-fits = first (replicate 64 noActivity) 0 (omega arith) (length-replicate 64 noActivity) nobody-sized nobody-fits
+pub zero_fits : Fitting zero_state
+zero_fits = first (replicate 64 no_activity) 0 (omega arith) (length-replicate 64 no_activity) nobody_sized nobody_fits
 
-pub start_fits : Fitting startState
+pub start_fits : Fitting start_state
 start_fits =
-    first (set (replicate 64 noActivity) 0 main) 1 (omega arith) (length-set (replicate 64 noActivity) 0 main ∙ length-replicate 64 noActivity) sized
-    (put FitsActivity (replicate 64 noActivity) 0 main absent nobody-fits (bare 1 (omega arith)))
+    first (set (replicate 64 no_activity) 0 main) 1 (omega arith) (length-set (replicate 64 no_activity) 0 main ∙ length-replicate 64 no_activity) sized
+    (put FitsActivity (replicate 64 no_activity) 0 main absent nobody_fits (bare 1 (omega arith)))
   where
     main : Activity
-    main = withFrames noActivity 1 noFrames
+    main = with_frames no_activity 1 no_frames
 
-    sized : (i : ℕ) → i < 64 → SizedActivity (get_or (set (replicate 64 noActivity) 0 main) i absent)
-    sized zero l = bare-sized 1
-    sized (suc i) l = nobody-sized (suc i) l
+    sized : (i : ℕ) → i < 64 → SizedActivity (get_or (set (replicate 64 no_activity) 0 main) i absent)
+    sized zero l = bare_sized 1
+    sized (suc i) l = nobody_sized (suc i) l
 
 -- THE STEP
 
@@ -133,7 +133,7 @@ small : (s : State) → Fitting s → Small s
 small s f =
     record {
       cells = past_end Four 16 s.cells 0 f.sized.cells16 f.fits.cells (omega arith);
-      values = past_end (λ c. Four c.value) 16 s.accs noAccumulator f.sized.accs16 (λ n l. (f.fits.accs n l).value) (omega arith);
+      values = past_end (λ c. Four c.value) 16 s.accs no_accumulator f.sized.accs16 (λ n l. (f.fits.accs n l).value) (omega arith);
       registers = past_end (λ a. Four a.register) 64 s.acts absent f.sized.acts64 (λ i l. (f.fits.acts i l).register) (omega arith);
     }
 
@@ -147,31 +147,31 @@ step_fits t y s f i = go (outcome base t s i)
     go (overflows q x e) = rw e f
     go (takes n w r x e) =
         let u = turn (program_of t) s i r in
-        let formed = step-wellFormed base (accepted t (numbered base.work t n)) s f.sized i w r x in
+        let formed = step_well_formed base (accepted t (numbered base.work t n)) s f.sized i w r x in
         let few : i < 64 = omega (arith, u.spawned, (facts 65535 (program_of t) s w).acts64) in
         record {
-          sized = rw e (step-sized (program_of t) s f.sized i few);
-          fits = rw e (formed-fits t n y _ formed (rw e at (small-step t y base s i (small s f))));
+          sized = rw e (step_sized (program_of t) s f.sized i few);
+          fits = rw e (formed_fits t n y _ formed (rw e at (small_step t y base s i (small s f))));
         }
 
 -- RUNS
 
 -- A step for each number of a list.
-pub run-from-fits : (t : List ℕ) → Bytes t → (order : List ℕ) (s : State) → Fitting s → Fitting (run_from base t s order)
+pub run_from_fits : (t : List ℕ) → Bytes t → (order : List ℕ) (s : State) → Fitting s → Fitting (run_from base t s order)
 unfolding run_from
-run-from-fits t y [] s f = f
-run-from-fits t y (i ∷ order) s f = run-from-fits t y order (step base t s i).state (step_fits t y s f i)
+run_from_fits t y [] s f = f
+run_from_fits t y (i ∷ order) s f = run_from_fits t y order (step base t s i).state (step_fits t y s f i)
 
 -- What the start returns, of an accepted table or another.
-pub start-call-fits : (t : List ℕ) → Fitting (start base t).state
-unfolding start startWith
-start-call-fits t = go (eqb (number_of base.work t) 0) refl
+pub start_call_fits : (t : List ℕ) → Fitting (start base t).state
+unfolding start start_with
+start_call_fits t = go (eqb (number_of base.work t) 0) refl
   where
     go : (b : Bool) → eqb (number_of base.work t) 0 ≡ b → Fitting (start base t).state
     go true e = rw e start_fits
-    go false e = rw e zero-fits
+    go false e = rw e zero_fits
 
 -- Every state that the rules reach: the start, and a step for each number of a list.
 pub run_fits : (t : List ℕ) → Bytes t → (order : List ℕ) → Fitting (run base t order)
 unfolding run
-run_fits t y order = run-from-fits t y order (start base t).state (start-call-fits t)
+run_fits t y order = run_from_fits t y order (start base t).state (start_call_fits t)

@@ -5,7 +5,7 @@ use mathlib.Core.Path.{◌≡◌, sym, ap, ◌∙◌}
 use mathlib.Core.List.{List, [], ◌∷◌}
 use mathlib.Core.Bool.{true}
 use lib.ListN.{get_or, drop}
-use Rattle.program.specs.Command.{opcode, operandsOf, commandOf, word}
+use Rattle.program.specs.Command.{opcode, operands_of, command_of, word}
 use Rattle.program.specs.Reading.{read}
 use Rattle.program.specs.Bodies.{program_of}
 use Rattle.program.specs.Scan.{scan, layout_of}
@@ -26,7 +26,7 @@ pub record Narrow (c : Command) : Type 0 where
 
 -- A command read from bytes.
 pub narrow : (s : List ℕ) {c : Command} {size : ℕ} → Bytes s → read s ≡ Whole c size → Narrow c
-unfolding read commandOf
+unfolding read command_of
 narrow [] y e = apart (cc)
 narrow (op ∷ s) {c} y e =
     let r = read_as op s e in
@@ -34,8 +34,8 @@ narrow (op ∷ s) {c} y e =
       runs =
           λ n b q.
           let k : op ≡ 7 = sym r.byte ∙ ap opcode q in
-          let m : commandOf 7 s ≡ Repeat n b = rw k at (r.same ∙ q) in
-          let z : get_or s 0 0 ≡ n = ap (λ (x : Command). get_or (operandsOf x) 0 0) m in
+          let m : command_of 7 s ≡ Repeat n b = rw k at (r.same ∙ q) in
+          let z : get_or s 0 0 ≡ n = ap (λ (x : Command). get_or (operands_of x) 0 0) m in
           omega (arith, y 1);
       value =
           λ v q.
@@ -46,6 +46,6 @@ narrow (op ∷ s) {c} y e =
     }
 
 -- The command that a frame stands on.
-pub narrow-here : (t : List ℕ) → scan t ≡ 0 → Bytes t → (f : Frame) → is_placed (program_of t) f ≡ true → Narrow (here (program_of t) f).command
-narrow-here t ok y f on =
+pub narrow_here : (t : List ℕ) → scan t ≡ 0 → Bytes t → (f : Frame) → is_placed (program_of t) f ≡ true → Narrow (here (program_of t) f).command
+narrow_here t ok y f on =
     narrow (drop f.offset (drop (get_or (layout_of t).starts f.body 0) t)) (bytes_drop f.offset _ (bytes_drop (get_or (layout_of t).starts f.body 0) t y)) (read_here t ok f on)

@@ -1,13 +1,13 @@
 // The machine's calls under their C names, for a host in C or Rust; `calls` has what each answers and leaves.
 ghost use Rattle.std.specs.Prelude.{◌≡◌, length};
-ghost use Rattle.calls.specs.Calls.{startNumber, startBytes, stepNumber, stepBytes, readyNumber, readySet, awaitsNumber, awaitsCount, sheetNumber, sheetBytes, runNumber, runAnswers, runBytes};
+ghost use Rattle.calls.specs.Calls.{start_number, start_bytes, step_number, step_bytes, ready_number, ready_set, awaits_number, awaits_count, sheet_number, sheet_bytes, run_number, run_answers, run_bytes};
 
 mod lists; // lists.rt: tables from lists of commands, and back
 
 // The start state of a table into the buffer, or the state of zeros for a table that is turned down.
 #[unsafe(no_mangle)]
 pub extern "C" fn stepmachine_start(table: &[u8], state: &mut [u8]) -> u8
-    ensures { (result ≡ startNumber table.now state.old) × (state.new ≡ startBytes table.now state.old) }
+    ensures { (result ≡ start_number table.now state.old) × (state.new ≡ start_bytes table.now state.old) }
 {
     calls::start(table, state)
 }
@@ -15,7 +15,7 @@ pub extern "C" fn stepmachine_start(table: &[u8], state: &mut [u8]) -> u8
 // A step of the state in the buffer, by an activity that the host picks. A refused step leaves the bytes.
 #[unsafe(no_mangle)]
 pub extern "C" fn stepmachine_step(table: &[u8], state: &mut [u8], activity: usize) -> u8
-    ensures { (result ≡ stepNumber table.now state.old activity) × (state.new ≡ stepBytes table.now state.old activity) }
+    ensures { (result ≡ step_number table.now state.old activity) × (state.new ≡ step_bytes table.now state.old activity) }
 {
     calls::step(table, state, activity)
 }
@@ -23,7 +23,7 @@ pub extern "C" fn stepmachine_step(table: &[u8], state: &mut [u8], activity: usi
 // Who can step, bit i for activity i. The set of a refused call is 0.
 #[unsafe(no_mangle)]
 pub extern "C" fn stepmachine_ready(table: &[u8], state: &[u8], set: &mut u64) -> u8
-    ensures { (result ≡ readyNumber table.now state.now) × (set.new ≡ readySet table.now state.now) }
+    ensures { (result ≡ ready_number table.now state.now) × (set.new ≡ ready_set table.now state.now) }
 {
     calls::ready(table, state, set)
 }
@@ -36,7 +36,7 @@ pub extern "C" fn stepmachine_awaited(
     activity: usize,
     count: &mut u8,
 ) -> u8
-    ensures { (result ≡ awaitsNumber table.now state.now activity) × (count.new ≡ awaitsCount table.now state.now activity) }
+    ensures { (result ≡ awaits_number table.now state.now activity) × (count.new ≡ awaits_count table.now state.now activity) }
 {
     calls::awaited(table, state, activity, count)
 }
@@ -44,7 +44,7 @@ pub extern "C" fn stepmachine_awaited(
 // The standing sheet of the state in the buffer, 1,024 bytes, row by row. The sheet of a refused call is zeros; another room for it stays as it was.
 #[unsafe(no_mangle)]
 pub extern "C" fn stepmachine_registrations(table: &[u8], state: &[u8], sheet: &mut [u8]) -> u8
-    ensures { (result ≡ sheetNumber table.now state.now sheet.old) × (sheet.new ≡ sheetBytes table.now state.now sheet.old) }
+    ensures { (result ≡ sheet_number table.now state.now sheet.old) × (sheet.new ≡ sheet_bytes table.now state.now sheet.old) }
 {
     calls::registrations(table, state, sheet)
 }
@@ -57,9 +57,9 @@ pub extern "C" fn stepmachine_run(
     answers: &mut [u8],
     state: &mut [u8],
 ) -> u8
-    ensures value { result ≡ runNumber table.now order.now (length answers.old) state.old }
-    ensures answers_after { answers.new ≡ runAnswers table.now order.now answers.old state.old }
-    ensures state_after { state.new ≡ runBytes table.now order.now (length answers.old) state.old }
+    ensures value { result ≡ run_number table.now order.now (length answers.old) state.old }
+    ensures answers_after { answers.new ≡ run_answers table.now order.now answers.old state.old }
+    ensures state_after { state.new ≡ run_bytes table.now order.now (length answers.old) state.old }
 {
     calls::run(table, order, answers, state)
 }

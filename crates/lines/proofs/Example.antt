@@ -2,8 +2,8 @@
 use Prim.Native.Nat.{ℕ}
 use mathlib.Core.List.{List, [], ◌∷◌, ◌++◌}
 use mathlib.Core.Path.{◌≡◌, refl}
-use Rattle.lines.specs.Text.{digitsOf, decimalOf, awaitedOf, line_of, total_of}
-use Rattle.lines.specs.Walk.{steps_of, lines_from, walkText}
+use Rattle.lines.specs.Text.{digits_of, decimal_of, awaited_of, line_of, total_of}
+use Rattle.lines.specs.Walk.{steps_of, lines_from, walk_text}
 
 -- Its order and answers, and how many are awaited at each.
 order : List ℕ
@@ -31,8 +31,8 @@ bytes =
     ++ (49 ∷ 48 ∷ 32 ∷ 48 ∷ 32 ∷ 49 ∷ 53 ∷ 32 ∷ 56 ∷ 10 ∷ [])
     ++ (119 ∷ 111 ∷ 114 ∷ 107 ∷ 32 ∷ 56 ∷ 32 ∷ 116 ∷ 97 ∷ 107 ∷ 101 ∷ 110 ∷ 32 ∷ 56 ∷ 32 ∷ 101 ∷ 110 ∷ 100 ∷ 101 ∷ 100 ∷ 32 ∷ 50 ∷ 32 ∷ 111 ∷ 102 ∷ 32 ∷ 50 ∷ 10 ∷ [])
 
-printed : walkText order answers awaited 8 8 2 2 ≡ bytes
-unfolding order answers awaited bytes walkText lines_from steps_of awaitedOf line_of total_of decimalOf digitsOf
+printed : walk_text order answers awaited 8 8 2 2 ≡ bytes
+unfolding order answers awaited bytes walk_text lines_from steps_of awaited_of line_of total_of decimal_of digits_of
 printed = refl
 
 -- A number of two digits behind 16, and one that is 0; none behind a step, another refusal or a fault; no line where the numbers have ended:
@@ -43,5 +43,5 @@ numbered : lines_from 0 0 (5 ∷ 5 ∷ 5 ∷ 5 ∷ 5 ∷ 5 ∷ []) (16 ∷ 16 �
     ++ (51 ∷ 32 ∷ 53 ∷ 32 ∷ 48 ∷ 32 ∷ 49 ∷ 10 ∷ [])
     ++ (52 ∷ 32 ∷ 53 ∷ 32 ∷ 49 ∷ 53 ∷ 32 ∷ 49 ∷ 10 ∷ [])
     ++ (53 ∷ 32 ∷ 53 ∷ 32 ∷ 49 ∷ 48 ∷ 50 ∷ 32 ∷ 50 ∷ 10 ∷ [])
-unfolding lines_from steps_of awaitedOf line_of decimalOf digitsOf
+unfolding lines_from steps_of awaited_of line_of decimal_of digits_of
 numbered = refl

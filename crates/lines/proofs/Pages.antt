@@ -6,8 +6,8 @@ use native.Mathlib.Omega.{arith}
 use lib.ListN.{length, take, drop}
 use lib.Seq.{sets-eq, take_at, take_all}
 use Rattle.lines.specs.Put.{Put}
-use Rattle.lines.specs.Text.{headerOf, line_of, total_of}
-use Rattle.lines.specs.Walk.{steps_of, stepsIn, lines_from, walkText}
+use Rattle.lines.specs.Text.{header_of, line_of, total_of}
+use Rattle.lines.specs.Walk.{steps_of, steps_in, lines_from, walk_text}
 use Rattle.lines.specs.Paged.{lines_between, Pages, over, page, joined}
 use Rattle.lines.proofs.Paging.{between_none, between_join}
 
@@ -18,48 +18,48 @@ handed {before} {text} {after} {end} p e =
     ap (take end) (p.bytes ∙ sets-eq text before 0 fits) ∙ take_at text (drop (0 + length text) before) end (sym e)
 
 -- Pages from a line on, joined, are the lines from it on.
-pages-join : (order answers awaited : List ℕ) → length order ≤ length answers → length order ≤ length awaited
+pages_join : (order answers awaited : List ℕ) → length order ≤ length answers → length order ≤ length awaited
     → {line : ℕ} {pieces : List (List ℕ)} → line ≤ length order → Pages order answers awaited line pieces → joined pieces ≡ lines_between order answers awaited line (length order)
 unfolding joined
-pages-join order answers awaited room size {line} h (over g) =
+pages_join order answers awaited room size {line} h (over g) =
     let last : length order ≡ line = omega arith in
     sym (between_none order answers awaited line) ∙ ap (lines_between order answers awaited line) (sym last)
-pages-join order answers awaited room size {line} h (page {r = r} {more = rest} p more) =
+pages_join order answers awaited room size {line} h (page {r = r} {more = rest} p more) =
     let within = p.within h in
     ap (λ (l : List ℕ). l ++ joined rest) (handed p.put p.whole)
-    ∙ ap (λ (l : List ℕ). lines_between order answers awaited line r.line ++ l) (pages-join order answers awaited room size within more)
+    ∙ ap (λ (l : List ℕ). lines_between order answers awaited line r.line ++ l) (pages_join order answers awaited room size within more)
     ∙ sym (between_join order answers awaited line r.line (length order) p.onward within within (omega arith) (omega arith))
 
 -- Answers and numbers past the order make no line.
-lines-take : (n t : ℕ) (order answers awaited : List ℕ)
+lines_take : (n t : ℕ) (order answers awaited : List ℕ)
     → lines_from n t order (take (length order) answers) (take (length order) awaited) ≡ lines_from n t order answers awaited
 unfolding lines_from
-lines-take n t [] answers awaited = refl
-lines-take n t (x ∷ order) [] awaited = refl
-lines-take n t (x ∷ order) (y ∷ answers) [] = refl
-lines-take n t (x ∷ order) (y ∷ answers) (z ∷ awaited) =
-    ap (λ (l : List ℕ). line_of (n + 1) x y (t + steps_of y) z ++ l) (lines-take (n + 1) (t + steps_of y) order answers awaited)
+lines_take n t [] answers awaited = refl
+lines_take n t (x ∷ order) [] awaited = refl
+lines_take n t (x ∷ order) (y ∷ answers) [] = refl
+lines_take n t (x ∷ order) (y ∷ answers) (z ∷ awaited) =
+    ap (λ (l : List ℕ). line_of (n + 1) x y (t + steps_of y) z ++ l) (lines_take (n + 1) (t + steps_of y) order answers awaited)
 
 -- All lines.
-between-all : (order answers awaited : List ℕ) → lines_between order answers awaited 0 (length order) ≡ lines_from 0 0 order answers awaited
-unfolding lines_between stepsIn
-between-all order answers awaited =
+between_all : (order answers awaited : List ℕ) → lines_between order answers awaited 0 (length order) ≡ lines_from 0 0 order answers awaited
+unfolding lines_between steps_in
+between_all order answers awaited =
     ap (λ (l : List ℕ). lines_from 0 0 l (take (length order) answers) (take (length order) awaited)) (take_all (length order) order (omega arith))
-    ∙ lines-take 0 0 order answers awaited
+    ∙ lines_take 0 0 order answers awaited
 
 -- The header, the pages and the total are the whole text.
-pub text-whole : (order answers awaited : List ℕ) (work taken ended spawned : ℕ) → length order ≤ length answers → length order ≤ length awaited
+pub text_whole : (order answers awaited : List ℕ) (work taken ended spawned : ℕ) → length order ≤ length answers → length order ≤ length awaited
     → {pieces : List (List ℕ)} → Pages order answers awaited 0 pieces
-    → headerOf ++ joined pieces ++ total_of work taken ended spawned ≡ walkText order answers awaited work taken ended spawned
-unfolding walkText
-text-whole order answers awaited work taken ended spawned room size pages =
-    ap (λ (l : List ℕ). headerOf ++ l ++ total_of work taken ended spawned)
-    (pages-join order answers awaited room size (omega arith) pages ∙ between-all order answers awaited)
+    → header_of ++ joined pieces ++ total_of work taken ended spawned ≡ walk_text order answers awaited work taken ended spawned
+unfolding walk_text
+text_whole order answers awaited work taken ended spawned room size pages =
+    ap (λ (l : List ℕ). header_of ++ l ++ total_of work taken ended spawned)
+    (pages_join order answers awaited room size (omega arith) pages ∙ between_all order answers awaited)
 
 -- Answers and numbers past the order change nothing of it.
-pub text-past : (order answers awaited : List ℕ) (work taken ended spawned : ℕ)
-    → walkText order (take (length order) answers) (take (length order) awaited) work taken ended spawned
-    ≡ walkText order answers awaited work taken ended spawned
-unfolding walkText
-text-past order answers awaited work taken ended spawned =
-    ap (λ (l : List ℕ). headerOf ++ l ++ total_of work taken ended spawned) (lines-take 0 0 order answers awaited)
+pub text_past : (order answers awaited : List ℕ) (work taken ended spawned : ℕ)
+    → walk_text order (take (length order) answers) (take (length order) awaited) work taken ended spawned
+    ≡ walk_text order answers awaited work taken ended spawned
+unfolding walk_text
+text_past order answers awaited work taken ended spawned =
+    ap (λ (l : List ℕ). header_of ++ l ++ total_of work taken ended spawned) (lines_take 0 0 order answers awaited)

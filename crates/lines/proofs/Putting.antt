@@ -10,37 +10,37 @@ use borrow.Author.Tests.{leb-true, leb-false, ltb-false, lt-ltb, le-ltb, eq-eqb,
 use lib.Dec.{leb, ltb}
 use lib.ListN.{length, take, get_or, set, length-set, length-append}
 use lib.Seq.{sets, length-sets, set_out, take-suc, take_all}
-use Rattle.lines.specs.Put.{Put, placeAfter}
-use Rattle.lines.specs.Text.{lastDigit, digitsOf, decimalOf, awaitedOf}
+use Rattle.lines.specs.Put.{Put, place_after}
+use Rattle.lines.specs.Text.{last_digit, digits_of, decimal_of, awaited_of}
 
 -- Nothing is written past the end.
-sets-out : (l : List ℕ) (i : ℕ) (vs : List ℕ) → length l ≤ i → sets l i vs ≡ l
-sets-out l i [] h = refl
-sets-out l i (a ∷ vs) h =
+sets_out : (l : List ℕ) (i : ℕ) (vs : List ℕ) → length l ≤ i → sets l i vs ≡ l
+sets_out l i [] h = refl
+sets_out l i (a ∷ vs) h =
     let k : length (set l i a) ≤ suc i = omega (arith, length-set l i a) in
-    sets-out (set l i a) (suc i) vs k ∙ set_out l i a h
+    sets_out (set l i a) (suc i) vs k ∙ set_out l i a h
 
 -- Two texts, the second where the first would end.
-sets-both : (l : List ℕ) (i : ℕ) (xs ys : List ℕ) → sets l i (xs ++ ys) ≡ sets (sets l i xs) (i + length xs) ys
-sets-both l i [] ys = ap (λ (k : ℕ). sets l k ys) (sym (add-zero i))
-sets-both l i (x ∷ xs) ys =
+sets_both : (l : List ℕ) (i : ℕ) (xs ys : List ℕ) → sets l i (xs ++ ys) ≡ sets (sets l i xs) (i + length xs) ys
+sets_both l i [] ys = ap (λ (k : ℕ). sets l k ys) (sym (add-zero i))
+sets_both l i (x ∷ xs) ys =
     let e : suc i + length xs ≡ i + suc (length xs) = omega arith in
-    sets-both (set l i x) (suc i) xs ys ∙ ap (λ (k : ℕ). sets (sets (set l i x) (suc i) xs) k ys) e
+    sets_both (set l i x) (suc i) xs ys ∙ ap (λ (k : ℕ). sets (sets (set l i x) (suc i) xs) k ys) e
 
 -- The same where the buffer ends within the first: nothing of the second is written.
-sets-after : (l : List ℕ) (i : ℕ) (xs ys : List ℕ) → sets l i (xs ++ ys) ≡ sets (sets l i xs) (placeAfter (length l) i (length xs)) ys
-sets-after l i xs ys = go (leb (i + length xs) (length l)) refl
+sets_after : (l : List ℕ) (i : ℕ) (xs ys : List ℕ) → sets l i (xs ++ ys) ≡ sets (sets l i xs) (place_after (length l) i (length xs)) ys
+sets_after l i xs ys = go (leb (i + length xs) (length l)) refl
   where
-    go : (b : Bool) → leb (i + length xs) (length l) ≡ b → sets l i (xs ++ ys) ≡ sets (sets l i xs) (placeAfter (length l) i (length xs)) ys
+    go : (b : Bool) → leb (i + length xs) (length l) ≡ b → sets l i (xs ++ ys) ≡ sets (sets l i xs) (place_after (length l) i (length xs)) ys
     go true h =
         let k : i + length xs ≤ length l = leb-true (i + length xs) (length l) h in
-        let e : i + length xs ≡ placeAfter (length l) i (length xs) = omega arith in
-        sets-both l i xs ys ∙ ap (λ (k : ℕ). sets (sets l i xs) k ys) e
+        let e : i + length xs ≡ place_after (length l) i (length xs) = omega arith in
+        sets_both l i xs ys ∙ ap (λ (k : ℕ). sets (sets l i xs) k ys) e
     go false h =
         let k : length l < i + length xs = leb-false (i + length xs) (length l) h in
         let far : length (sets l i xs) ≤ i + length xs = omega (arith, length-sets l i xs) in
-        let out : length (sets l i xs) ≤ placeAfter (length l) i (length xs) = omega (arith, length-sets l i xs) in
-        sets-both l i xs ys ∙ sets-out (sets l i xs) (i + length xs) ys far ∙ sym (sets-out (sets l i xs) (placeAfter (length l) i (length xs)) ys out)
+        let out : length (sets l i xs) ≤ place_after (length l) i (length xs) = omega (arith, length-sets l i xs) in
+        sets_both l i xs ys ∙ sets_out (sets l i xs) (i + length xs) ys far ∙ sym (sets_out (sets l i xs) (place_after (length l) i (length xs)) ys out)
 
 -- The buffer's length stays.
 pub kept : {l l' xs : List ℕ} {at n : ℕ} → Put l at xs l' n → length l' ≡ length l
@@ -49,7 +49,7 @@ kept {l} {l'} {xs} {at} p = ap length p.bytes ∙ length-sets l at xs
 -- A text after another is the two joined.
 pub both : {l l' l'' xs ys : List ℕ} {at n m : ℕ} → Put l at xs l' n → Put l' n ys l'' m → Put l at (xs ++ ys) l'' m
 both {l} {l'} {l''} {xs} {ys} {at} {n} {m} p q = record {
-  bytes = q.bytes ∙ ap (λ (k : List ℕ). sets k n ys) p.bytes ∙ ap (λ (k : ℕ). sets (sets l at xs) k ys) p.place ∙ sym (sets-after l at xs ys);
+  bytes = q.bytes ∙ ap (λ (k : List ℕ). sets k n ys) p.bytes ∙ ap (λ (k : ℕ). sets (sets l at xs) k ys) p.place ∙ sym (sets_after l at xs ys);
   place = omega (arith, kept p, length-append xs ys, p.place, q.place);
 }
 
@@ -70,44 +70,44 @@ pub whole : (text : List ℕ) (i : ℕ) {l l' : List ℕ} {at n : ℕ} → lengt
 whole text i {l} {l'} {at} {n} h p = subst (λ (t : List ℕ). Put l at t l' n) (take_all i text h) p
 
 -- More fuel than the number changes nothing.
-fuel : (k j n : ℕ) → n < k → n < j → digitsOf k n ≡ digitsOf j n
-unfolding digitsOf
+fuel : (k j n : ℕ) → n < k → n < j → digits_of k n ≡ digits_of j n
+unfolding digits_of
 fuel zero j n h g = absurd (omega arith)
 fuel (suc k) zero n h g = absurd (omega arith)
 fuel (suc k) (suc j) n h g = go (ltb n 10) refl (fuel k j (n / 10))
   where
-    go : (b : Bool) → ltb n 10 ≡ b → (n / 10 < k → n / 10 < j → digitsOf k (n / 10) ≡ digitsOf j (n / 10)) → cond b (lastDigit n ∷ []) (digitsOf k (n / 10) ++ (lastDigit n ∷ [])) ≡ cond b (lastDigit n ∷ []) (digitsOf j (n / 10) ++ (lastDigit n ∷ []))
+    go : (b : Bool) → ltb n 10 ≡ b → (n / 10 < k → n / 10 < j → digits_of k (n / 10) ≡ digits_of j (n / 10)) → cond b (last_digit n ∷ []) (digits_of k (n / 10) ++ (last_digit n ∷ [])) ≡ cond b (last_digit n ∷ []) (digits_of j (n / 10) ++ (last_digit n ∷ []))
     go true e ih = refl
     go false e ih =
         let big : 10 ≤ n = ltb-false n 10 e in
         let a : n / 10 < k = omega arith in
         let b : n / 10 < j = omega arith in
-        ap (λ (d : List ℕ). d ++ (lastDigit n ∷ [])) (ih a b)
+        ap (λ (d : List ℕ). d ++ (last_digit n ∷ [])) (ih a b)
 
-small : (n : ℕ) → n < 10 → decimalOf n ≡ lastDigit n ∷ []
-unfolding decimalOf digitsOf
+small : (n : ℕ) → n < 10 → decimal_of n ≡ last_digit n ∷ []
+unfolding decimal_of digits_of
 small n h = rw (lt-ltb n 10 h) refl
 
-large : (n : ℕ) → 10 ≤ n → decimalOf n ≡ decimalOf (n / 10) ++ (lastDigit n ∷ [])
-unfolding decimalOf digitsOf
+large : (n : ℕ) → 10 ≤ n → decimal_of n ≡ decimal_of (n / 10) ++ (last_digit n ∷ [])
+unfolding decimal_of digits_of
 large n h =
     let a : n / 10 < n = omega arith in
     let b : n / 10 < suc (n / 10) = omega arith in
-    rw (le-ltb n 10 h) (ap (λ (d : List ℕ). d ++ (lastDigit n ∷ [])) (fuel n (suc (n / 10)) (n / 10) a b))
+    rw (le-ltb n 10 h) (ap (λ (d : List ℕ). d ++ (last_digit n ∷ [])) (fuel n (suc (n / 10)) (n / 10) a b))
 
 -- A number of one digit, and one of more.
-pub one-digit : {l l' : List ℕ} {at m n x : ℕ} → n < 10 → x ≡ lastDigit n → Put l at (x ∷ []) l' m → Put l at (decimalOf n) l' m
-one-digit {l} {l'} {at} {m} {n} {x} h e p = subst (λ (t : List ℕ). Put l at t l' m) (ap (λ (y : ℕ). y ∷ []) e ∙ sym (small n h)) p
+pub one_digit : {l l' : List ℕ} {at m n x : ℕ} → n < 10 → x ≡ last_digit n → Put l at (x ∷ []) l' m → Put l at (decimal_of n) l' m
+one_digit {l} {l'} {at} {m} {n} {x} h e p = subst (λ (t : List ℕ). Put l at t l' m) (ap (λ (y : ℕ). y ∷ []) e ∙ sym (small n h)) p
 
-pub digit-more : {l l' l'' : List ℕ} {at m k n x : ℕ} → 10 ≤ n → x ≡ lastDigit n → Put l at (decimalOf (n / 10)) l' m → Put l' m (x ∷ []) l'' k → Put l at (decimalOf n) l'' k
-digit-more {l} {l'} {l''} {at} {m} {k} {n} {x} h e p q = subst (λ (t : List ℕ). Put l at t l'' k) (ap (λ (y : ℕ). decimalOf (n / 10) ++ (y ∷ [])) e ∙ sym (large n h)) (both p q)
+pub digit_more : {l l' l'' : List ℕ} {at m k n x : ℕ} → 10 ≤ n → x ≡ last_digit n → Put l at (decimal_of (n / 10)) l' m → Put l' m (x ∷ []) l'' k → Put l at (decimal_of n) l'' k
+digit_more {l} {l'} {l''} {at} {m} {k} {n} {x} h e p q = subst (λ (t : List ℕ). Put l at t l'' k) (ap (λ (y : ℕ). decimal_of (n / 10) ++ (y ∷ [])) e ∙ sym (large n h)) (both p q)
 
 -- A blank and a number behind answer 16, and nothing behind another.
-pub awaited-put : (n : ℕ) {l l' l'' : List ℕ} {at m k answer : ℕ} → answer ≡ 16 → Put l at (32 ∷ []) l' m → Put l' m (decimalOf n) l'' k
-    → Put l at (awaitedOf answer n) l'' k
-unfolding awaitedOf
-awaited-put n {l} {l'} {l''} {at} {m} {k} {answer} e p q = rw (eq-eqb answer 16 e) (both p q)
+pub awaited_put : (n : ℕ) {l l' l'' : List ℕ} {at m k answer : ℕ} → answer ≡ 16 → Put l at (32 ∷ []) l' m → Put l' m (decimal_of n) l'' k
+    → Put l at (awaited_of answer n) l'' k
+unfolding awaited_of
+awaited_put n {l} {l'} {l''} {at} {m} {k} {answer} e p q = rw (eq-eqb answer 16 e) (both p q)
 
-pub awaited-none : (n : ℕ) {l : List ℕ} {at answer : ℕ} → (answer ≡ 16 → ⊥) → Put l at (awaitedOf answer n) l at
-unfolding awaitedOf
-awaited-none n {l} {at} {answer} e = rw (ne_eqb answer 16 e) none
+pub awaited_none : (n : ℕ) {l : List ℕ} {at answer : ℕ} → (answer ≡ 16 → ⊥) → Put l at (awaited_of answer n) l at
+unfolding awaited_of
+awaited_none n {l} {at} {answer} e = rw (ne_eqb answer 16 e) none

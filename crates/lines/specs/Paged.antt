@@ -3,12 +3,12 @@ use Rattle.std.specs.Prelude.{ℕ, ◌+◌, ◌≤◌, ◌<◌, List, [], ◌∷
 use Rattle.std.proofs.Math.Seq.{slice}
 use Rattle.lines.specs.declared.page.Page.{Page}
 use Rattle.lines.specs.Put.{Put}
-use Rattle.lines.specs.Walk.{stepsIn, lines_from}
+use Rattle.lines.specs.Walk.{steps_in, lines_from}
 
 -- The lines from one number up to another, of a whole order, its answers and the awaited numbers.
 unfoldable pub lines_between : List ℕ → List ℕ → List ℕ → ℕ → ℕ → List ℕ
 lines_between order answers awaited from to =
-    lines_from from (stepsIn (take from answers)) (slice from to order) (slice from to answers) (slice from to awaited)
+    lines_from from (steps_in (take from answers)) (slice from to order) (slice from to answers) (slice from to awaited)
 
 -- The lines from one number on stand at the buffer's start, whole, and the page says where they end and how many lines there are by then. It stops where
 -- the order, the answers or the awaited numbers end, or with fewer than 128 bytes free; a buffer of so many has room for a line.

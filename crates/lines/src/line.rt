@@ -1,6 +1,6 @@
 // The walk's lines. Each answers the place after its line.
 ghost use Rattle.lines.specs.Put.{Put};
-ghost use Rattle.lines.specs.Text.{field_of, named_of, headerOf, awaitedOf, line_of, total_of, refusedOf};
+ghost use Rattle.lines.specs.Text.{field_of, named_of, header_of, awaited_of, line_of, total_of, refused_of};
 
 use super::put::{put_byte, put_bytes, put_number};
 
@@ -22,14 +22,14 @@ fn put_named(out: &mut [u8], at: usize, name: &[u8], n: u64) -> usize
 
 // The header.
 pub fn put_header(out: &mut [u8], at: usize) -> usize
-    ensures { Put out.old at headerOf out.new result }
+    ensures { Put out.old at header_of out.new result }
 {
     put_bytes(out, at, b"line act answer taken\n")
 }
 
 // Behind answer 16, a blank and how many activities are awaited.
 fn put_awaited(out: &mut [u8], at: usize, answer: u8, awaited: u8) -> usize
-    ensures { Put out.old at (awaitedOf answer awaited) out.new result }
+    ensures { Put out.old at (awaited_of answer awaited) out.new result }
 {
     if answer != 16 {
         return at;
@@ -78,7 +78,7 @@ pub fn put_total(
 
 // The one line of a table that is turned down.
 pub fn put_refused(out: &mut [u8], at: usize, number: u64) -> usize
-    ensures { Put out.old at (refusedOf number) out.new result }
+    ensures { Put out.old at (refused_of number) out.new result }
 {
     let next = put_named(out, at, b"table ", number);
     put_byte(out, next, 10)

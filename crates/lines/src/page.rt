@@ -1,6 +1,6 @@
 // Pages of the walk's lines.
 ghost use Rattle.std.specs.Prelude.{◌≡◌, take};
-ghost use Rattle.lines.specs.Walk.{steps_of, stepsIn};
+ghost use Rattle.lines.specs.Walk.{steps_of, steps_in};
 ghost use Rattle.lines.specs.Paged.{Paged};
 
 use super::line::put_line;
@@ -27,7 +27,7 @@ pub fn steps_of(answer: u8) -> u64
 
 // The steps taken by the first answers, so many of them.
 fn taken_by(answers: &[u8], line: usize) -> u64
-    ensures { result ≡ stepsIn (take line answers.now) }
+    ensures { result ≡ steps_in (take line answers.now) }
 {
     let mut taken: u64 = 0;
     let mut i: usize = 0;

@@ -12,12 +12,12 @@ use Rattle.rules.specs.declared.state.Activity.{Activity}
 use Rattle.rules.specs.declared.state.Accumulator.{Accumulator}
 use Rattle.rules.specs.declared.state.State.{State}
 use Rattle.rules.specs.State.{absent, act}
-use Rattle.rules.specs.Effects.{Spawned, nobody, one, Effect, withSpawned, applied}
+use Rattle.rules.specs.Effects.{Spawned, nobody, one, Effect, with_spawned, applied}
 use Rattle.encoding.specs.Bytes.{number_of, part, byte_at, parts_at}
-use Rattle.encoding.specs.Decode.{activityAt, accumulatorAt, activityEncodes, fieldsEncode, state_of}
+use Rattle.encoding.specs.Decode.{activity_at, accumulator_at, activity_encodes, fields_encode, state_of}
 use Rattle.encoding.proofs.FieldLaws.{sized}
-use Rattle.encoding.proofs.PartLaws.{partsAt-at, partsPass-at}
-use Rattle.encoding.proofs.Passed.{state-passes}
+use Rattle.encoding.proofs.PartLaws.{parts_at_at, parts_pass_at}
+use Rattle.encoding.proofs.Passed.{state_passes}
 use Rattle.machine.specs.After.{entry}
 
 -- THE STATE
@@ -38,7 +38,7 @@ after s t i =
 -- THE BYTES
 
 -- Those of a state: the 208 of an entry.
-module _ (b : List ℕ) (n : length b ≡ 13776) (e : fieldsEncode b ≡ true) (i : ℕ) (h : i < 64) where
+module _ (b : List ℕ) (n : length b ≡ 13776) (e : fields_encode b ≡ true) (i : ℕ) (h : i < 64) where
   abbrev mine : List ℕ
   mine = take (464 + 208 * i + 208 - (464 + 208 * i)) (drop (464 + 208 * i) b)
 
@@ -50,15 +50,15 @@ module _ (b : List ℕ) (n : length b ≡ 13776) (e : fieldsEncode b ≡ true) (
       let all : take 13312 (drop 464 b) ≡ drop 464 b = take_all 13312 (drop 464 b) (rw length-drop (omega arith)) in
       rw (off, all, drop-drop)
 
-  pub entry-long : length mine ≡ 208
-  entry-long = sized b (464 + 208 * i) 208 (464 + 208 * i + 208 - (464 + 208 * i)) off (omega arith)
+  pub entry_long : length mine ≡ 208
+  entry_long = sized b (464 + 208 * i) 208 (464 + 208 * i + 208 - (464 + 208 * i)) off (omega arith)
 
-  pub entry-encodes : activityEncodes mine ≡ true
-  entry-encodes = rw stand (partsPass-at 208 64 i activityEncodes (part b 464 13312) (state-passes b e).acts h)
+  pub entry_encodes : activity_encodes mine ≡ true
+  entry_encodes = rw stand (parts_pass_at 208 64 i activity_encodes (part b 464 13312) (state_passes b e).acts h)
 
-  pub entry-is : activityAt mine ≡ act (state_of b) i
+  pub entry_is : activity_at mine ≡ act (state_of b) i
   unfolding state_of
-  entry-is = rw stand (sym (partsAt-at 208 64 i activityAt (part b 464 13312) absent h))
+  entry_is = rw stand (sym (parts_at_at 208 64 i activity_at (part b 464 13312) absent h))
 
 -- THE ENTRIES
 
@@ -69,39 +69,39 @@ pub last : (n : ℕ) → 64 ≤ n → 63 ≡ entry n
 last n h = rw (le-ltb n 64 h)
 
 -- The activity's own entry is as the effect says.
-own-entry : (l : List Activity) (i n : ℕ) (a : Activity) (x : Spawned) → i < length l → i < n → get_or (withSpawned n (set l i a) x) i absent ≡ a
-own-entry l i n a nobody h k = get_or-set_same l i a absent h
-own-entry l i n a (one c) h k = get_or-set_other (set l i a) n i c absent (λ q. omega arith) ∙ get_or-set_same l i a absent h
+own_entry : (l : List Activity) (i n : ℕ) (a : Activity) (x : Spawned) → i < length l → i < n → get_or (with_spawned n (set l i a) x) i absent ≡ a
+own_entry l i n a nobody h k = get_or-set_same l i a absent h
+own_entry l i n a (one c) h k = get_or-set_other (set l i a) n i c absent (λ q. omega arith) ∙ get_or-set_same l i a absent h
 
 -- Stored again, the entry behind those there were is what it is.
-again : (l : List Activity) (n : ℕ) (x : Spawned) → set l n (get_or (withSpawned n l x) n absent) ≡ withSpawned n l x
+again : (l : List Activity) (n : ℕ) (x : Spawned) → set l n (get_or (with_spawned n l x) n absent) ≡ with_spawned n l x
 again l n nobody = set-get_or l n absent
 again l n (one c) = sym (set-set l n c (get_or (set l n c) n absent)) ∙ set-get_or (set l n c) n absent
 
 -- Where none is free, nobody is spawned.
-full : (l : List Activity) (n : ℕ) (x : Spawned) → length l ≤ n → withSpawned n l x ≡ l
+full : (l : List Activity) (n : ℕ) (x : Spawned) → length l ≤ n → with_spawned n l x ≡ l
 full l n nobody h = refl
 full l n (one c) h = set_out l n c h
 
 -- So is the next free one, or the last.
-free-entry : (l : List Activity) (n : ℕ) (x : Spawned) → length l ≡ 64 → set l (entry n) (get_or (withSpawned n l x) (entry n) absent) ≡ withSpawned n l x
-free-entry l n x h = go (ltb n 64) refl
+free_entry : (l : List Activity) (n : ℕ) (x : Spawned) → length l ≡ 64 → set l (entry n) (get_or (with_spawned n l x) (entry n) absent) ≡ with_spawned n l x
+free_entry l n x h = go (ltb n 64) refl
   where
-    go : (b : Bool) → ltb n 64 ≡ b → set l (entry n) (get_or (withSpawned n l x) (entry n) absent) ≡ withSpawned n l x
+    go : (b : Bool) → ltb n 64 ≡ b → set l (entry n) (get_or (with_spawned n l x) (entry n) absent) ≡ with_spawned n l x
     go true e = rw e (again l n x)
     go false e = let k : length l ≤ n = rw h (ltb-false n 64 e) in rw (e, full l n x k) (set-get_or l 63 absent)
 
 module _ (s : State) (i : ℕ) (e : Effect) (n : length s.acts ≡ 64) (h : i < s.activities) (m : s.activities ≤ 64) where
-  pub own-after : act (applied s i e) i ≡ e.self
+  pub own_after : act (applied s i e) i ≡ e.self
   unfolding applied
-  own-after = own-entry s.acts i s.activities e.self e.spawned (omega arith) h
+  own_after = own_entry s.acts i s.activities e.self e.spawned (omega arith) h
 
   -- The state after an effect, put together, is that state,
   pub together : after s (applied s i e) i ≡ applied s i e
   unfolding after applied
   together =
       let k : entry i ≡ i = sym (within i (omega arith)) in
-      rw (k, own-entry s.acts i s.activities e.self e.spawned (omega arith) h, free-entry (set s.acts i e.self) s.activities e.spawned (length-set s.acts i e.self ∙ n))
+      rw (k, own_entry s.acts i s.activities e.self e.spawned (omega arith) h, free_entry (set s.acts i e.self) s.activities e.spawned (length-set s.acts i e.self ∙ n))
 
 -- and a state put together from itself is that state too.
 pub same : (s : State) (i : ℕ) → after s s i ≡ s
@@ -112,7 +112,7 @@ same s i = rw (set-get_or s.acts (entry i) absent, set-get_or s.acts (entry s.ac
 
 pub made : (s : State) (b : List ℕ) (i : ℕ) {n k m : ℕ} {cells : List ℕ} {accs : List Accumulator} {a x : Activity}
     → k ≡ entry i → m ≡ entry s.activities → a ≡ act (state_of b) k → x ≡ act (state_of b) m
-    → cells ≡ parts_at 4 16 number_of (part b 16 64) → accs ≡ parts_at 24 16 accumulatorAt (part b 80 384) → n ≡ number_of (part b 4 4)
+    → cells ≡ parts_at 4 16 number_of (part b 16 64) → accs ≡ parts_at 24 16 accumulator_at (part b 80 384) → n ≡ number_of (part b 4 4)
     → record { cells = cells; acts = set (set s.acts k a) m x; accs = accs; steps = n; activities = byte_at b 1; clocks = byte_at b 2; accumulators = byte_at b 3 } ≡ after s (state_of b) i
 unfolding after state_of
 made s b i p q o f g h e = rw (o, f, g, h, e, p, q)

@@ -7,85 +7,85 @@ use mathlib.Core.Bool.{Bool, true, false, cond}
 use lib.Dec.{leb, eqb}
 use lib.ListN.{length, take, drop}
 use borrow.Author.Tests.{eq-eqb, ne_eqb}
-use Rattle.program.specs.Table.{workLimit, number_of}
+use Rattle.program.specs.Table.{work_limit, number_of}
 use Rattle.program.proofs.Basic.{Bytes}
 use Rattle.program.proofs.NumberLaws.{number_small}
 use Rattle.rules.specs.declared.state.State.{State}
 use Rattle.rules.specs.declared.answer.Completion.TheVariants as completion
-use Rattle.rules.specs.State.{zeroState}
+use Rattle.rules.specs.State.{zero_state}
 use Rattle.rules.specs.Steps.{base}
 use Rattle.rules.specs.Demand3.{AtEveryPoint}
 use Rattle.rules.specs.Runs.{run, awaiteds}
-use Rattle.rules.proofs.Tests.{true-false}
-use Rattle.rules.proofs.Demand3.{at-every-point}
+use Rattle.rules.proofs.Tests.{true_false}
+use Rattle.rules.proofs.Demand3.{at_every_point}
 use Rattle.encoding.specs.declared.Decoded.{Decoded}
-use Rattle.encoding.specs.Decode.{decodedOf}
+use Rattle.encoding.specs.Decode.{decoded_of}
 use Rattle.fits.proofs.Fitting.{run_fits}
-use Rattle.calls.specs.Calls.{tableFirst, fitsState, runNumber, runAnswers, runBytes, traceCounts}
-use Rattle.machine.specs.Ran.{ranOf, answered, awaitedBy, Runs}
+use Rattle.calls.specs.Calls.{table_first, fits_state, run_number, run_answers, run_bytes, trace_counts}
+use Rattle.machine.specs.Ran.{ran_of, answered, awaited_by, Runs}
 use Rattle.machine.proofs.Values.{decoded}
 
-module _ (t order before own : List ℕ) {after c : List ℕ} {n : ℕ} (long : length own ≡ 13776) (e : n ≡ runNumber t order (length before) own)
-    (f : after ≡ runAnswers t order before own) (g : c ≡ runBytes t order (length before) own) where
+module _ (t order before own : List ℕ) {after c : List ℕ} {n : ℕ} (long : length own ≡ 13776) (e : n ≡ run_number t order (length before) own)
+    (f : after ≡ run_answers t order before own) (g : c ≡ run_bytes t order (length before) own) where
   -- Demand 3 of an accepted table.
-  demanded : number_of workLimit t ≡ 0 → AtEveryPoint base t order
-  demanded z = at-every-point base t (omega arith) z order
+  demanded : number_of work_limit t ≡ 0 → AtEveryPoint base t order
+  demanded z = at_every_point base t (omega arith) z order
 
   -- The number by the table's number x and the room y for the answers.
-  by-room : n ≡ cond (eqb (number_of workLimit t) 0) (cond (leb (length order) (length before)) 0 255) (number_of workLimit t)
-  unfolding runNumber tableFirst fitsState
-  by-room = e ∙ rw (eq-eqb (length own) 13776 long)
+  by_room : n ≡ cond (eqb (number_of work_limit t) 0) (cond (leb (length order) (length before)) 0 255) (number_of work_limit t)
+  unfolding run_number table_first fits_state
+  by_room = e ∙ rw (eq-eqb (length own) 13776 long)
 
   -- A run that is not done leaves the answers.
   stays : (n ≡ 0 → ⊥) → after ≡ before
-  unfolding runAnswers
+  unfolding run_answers
   stays h = f ∙ rw (sym e, ne_eqb n 0 h)
 
-  pub short : {s : State} → n ≡ 255 → s ≡ zeroState → Runs t order before after (record { completion = completion.Short; state = s })
-  unfolding ranOf answered
-  short {s} h q = go (eqb (number_of workLimit t) 0) refl (leb (length order) (length before)) refl
+  pub short : {s : State} → n ≡ 255 → s ≡ zero_state → Runs t order before after (record { completion = completion.Short; state = s })
+  unfolding ran_of answered
+  short {s} h q = go (eqb (number_of work_limit t) 0) refl (leb (length order) (length before)) refl
     where
       same : after ≡ before
       same = stays (λ z. omega arith)
 
-      go : (x : Bool) → eqb (number_of workLimit t) 0 ≡ x → (y : Bool) → leb (length order) (length before) ≡ y → Runs t order before after (record { completion = completion.Short; state = s })
+      go : (x : Bool) → eqb (number_of work_limit t) 0 ≡ x → (y : Bool) → leb (length order) (length before) ≡ y → Runs t order before after (record { completion = completion.Short; state = s })
       go true a false b = record { result = rw (q, a, b); buffer = same ∙ rw (a, b); demand = demanded }
-      go true a true b = let z : ◌≡◌ {A = ℕ} 255 0 = sym h ∙ by-room ∙ rw (a, b) in absurd (omega arith)
+      go true a true b = let z : ◌≡◌ {A = ℕ} 255 0 = sym h ∙ by_room ∙ rw (a, b) in absurd (omega arith)
       go false a y b =
-          let z : n ≡ number_of workLimit t = by-room ∙ rw a in
-          let l = number_small workLimit t in
+          let z : n ≡ number_of work_limit t = by_room ∙ rw a in
+          let l = number_small work_limit t in
           absurd (let w : ⊥ = omega arith in w)
 
-  pub refused : {s : State} → (n ≡ 255 → ⊥) → (n ≡ 0 → ⊥) → s ≡ zeroState → Runs t order before after (record { completion = completion.Refused n; state = s })
-  unfolding ranOf answered
-  refused {s} h k q = go (eqb (number_of workLimit t) 0) refl (leb (length order) (length before)) refl
+  pub refused : {s : State} → (n ≡ 255 → ⊥) → (n ≡ 0 → ⊥) → s ≡ zero_state → Runs t order before after (record { completion = completion.Refused n; state = s })
+  unfolding ran_of answered
+  refused {s} h k q = go (eqb (number_of work_limit t) 0) refl (leb (length order) (length before)) refl
     where
-      go : (x : Bool) → eqb (number_of workLimit t) 0 ≡ x → (y : Bool) → leb (length order) (length before) ≡ y
+      go : (x : Bool) → eqb (number_of work_limit t) 0 ≡ x → (y : Bool) → leb (length order) (length before) ≡ y
           → Runs t order before after (record { completion = completion.Refused n; state = s })
-      go true a true b = absurd (k (by-room ∙ rw (a, b)))
-      go true a false b = absurd (h (by-room ∙ rw (a, b)))
-      go false a y b = let z : n ≡ number_of workLimit t = by-room ∙ rw a in record { result = rw (q, z, a); buffer = stays k ∙ rw a; demand = demanded }
+      go true a true b = absurd (k (by_room ∙ rw (a, b)))
+      go true a false b = absurd (h (by_room ∙ rw (a, b)))
+      go false a y b = let z : n ≡ number_of work_limit t = by_room ∙ rw a in record { result = rw (q, z, a); buffer = stays k ∙ rw a; demand = demanded }
 
   -- Done, its own bytes are those of the run's state.
-  ran : {d : Decoded} → Bytes t → n ≡ 0 → d ≡ decodedOf c → d.state ≡ run base t order
-  unfolding runBytes
+  ran : {d : Decoded} → Bytes t → n ≡ 0 → d ≡ decoded_of c → d.state ≡ run base t order
+  unfolding run_bytes
   ran y z o = decoded (run_fits t y order) o (g ∙ rw (sym e ∙ z))
 
-  pub done : {d : Decoded} → Bytes t → n ≡ 0 → d ≡ decodedOf c → Runs t order before after (record { completion = completion.Done; state = d.state })
-  unfolding ranOf answered runAnswers
-  done {d} y z o = go (eqb (number_of workLimit t) 0) refl (leb (length order) (length before)) refl
+  pub done : {d : Decoded} → Bytes t → n ≡ 0 → d ≡ decoded_of c → Runs t order before after (record { completion = completion.Done; state = d.state })
+  unfolding ran_of answered run_answers
+  done {d} y z o = go (eqb (number_of work_limit t) 0) refl (leb (length order) (length before)) refl
     where
-      go : (x : Bool) → eqb (number_of workLimit t) 0 ≡ x → (w : Bool) → leb (length order) (length before) ≡ w
+      go : (x : Bool) → eqb (number_of work_limit t) 0 ≡ x → (w : Bool) → leb (length order) (length before) ≡ w
           → Runs t order before after (record { completion = completion.Done; state = d.state })
       go true a true b = record { result = rw (ran y z o, a, b); buffer = f ∙ rw (sym e ∙ z, a, b); demand = demanded }
-      go true a false b = let k : ◌≡◌ {A = ℕ} 0 255 = sym z ∙ by-room ∙ rw (a, b) in absurd (omega arith)
-      go false a w b = absurd (true-false _ (eq-eqb (number_of workLimit t) 0 (sym (by-room ∙ rw a) ∙ z)) a)
+      go true a false b = let k : ◌≡◌ {A = ℕ} 0 255 = sym z ∙ by_room ∙ rw (a, b) in absurd (omega arith)
+      go false a w b = absurd (true_false _ (eq-eqb (number_of work_limit t) 0 (sym (by_room ∙ rw a) ∙ z)) a)
 
 -- How many each step waits for, in the second buffer.
-pub told-by : (t order before counts own : List ℕ) {told : List ℕ} → length own ≡ 13776 → told ≡ traceCounts t order (length before) counts own
-    → told ≡ awaitedBy t order (length before) counts
-unfolding traceCounts awaitedBy runNumber tableFirst fitsState
-told-by t order before counts own long e = e ∙ rw (eq-eqb (length own) 13776 long) (go (number_of workLimit t) (eqb (number_of workLimit t) 0) refl (leb (length order) (length before)))
+pub told_by : (t order before counts own : List ℕ) {told : List ℕ} → length own ≡ 13776 → told ≡ trace_counts t order (length before) counts own
+    → told ≡ awaited_by t order (length before) counts
+unfolding trace_counts awaited_by run_number table_first fits_state
+told_by t order before counts own long e = e ∙ rw (eq-eqb (length own) 13776 long) (go (number_of work_limit t) (eqb (number_of work_limit t) 0) refl (leb (length order) (length before)))
   where
     filled : List ℕ
     filled = take (length counts) (awaiteds base t order) ++ drop (length order) counts

@@ -9,10 +9,10 @@ use lib.Seq.{get_or-set_same, get_or-set_other}
 use Rattle.rules.specs.declared.state.Activity.{Activity}
 use Rattle.rules.specs.declared.state.State.{State}
 use Rattle.rules.specs.State.{act}
-use Rattle.rules.specs.Steps.{sheetOf}
+use Rattle.rules.specs.Steps.{sheet_of}
 use Rattle.fields.specs.Lent.{Lent, Reads, ReadsAct}
 use Rattle.turns.specs.Sheet.{row_of}
-use Rattle.turns.proofs.Sheets.{sheet-rows}
+use Rattle.turns.proofs.Sheets.{sheet_rows}
 
 -- The rows below i are those of the state.
 pub record Rows (b : List ℕ) (rows : List (List ℕ)) (i : ℕ) : Type 0 where
@@ -36,5 +36,5 @@ module _ {b : List ℕ} {rows : List (List ℕ)} {i : ℕ} (r : Rows b rows i) w
       go s l j k (yes e) = rw (← e) (get_or-set_same rows i row [] (omega (arith, r.long)) ∙ m.reads s l h)
       go s l j k (no n) = get_or-set_other rows i j row [] (λ e. n (sym e)) ∙ r.stand s l j (omega arith)
 
-  pub rows_all : 64 ≤ i → Reads sheetOf b rows
-  rows_all h = record { reads = λ s l. sheet-rows s rows [] r.long (λ j k. r.stand s l j (omega arith)) }
+  pub rows_all : 64 ≤ i → Reads sheet_of b rows
+  rows_all h = record { reads = λ s l. sheet_rows s rows [] r.long (λ j k. r.stand s l j (omega arith)) }

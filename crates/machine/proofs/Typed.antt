@@ -14,7 +14,7 @@ use Rattle.rules.specs.declared.state.Hold.{Hold}
 use Rattle.rules.specs.declared.state.Activity.{Activity}
 use Rattle.rules.specs.declared.state.Accumulator.{Accumulator}
 use Rattle.rules.specs.declared.state.State.{State}
-use Rattle.rules.specs.State.{noFrame, noHold, noAccumulator, absent}
+use Rattle.rules.specs.State.{no_frame, no_hold, no_accumulator, absent}
 use Rattle.rules.proofs.Sized.{SizedActivity, Sized}
 use Rattle.rules.specs.contracts.state.Frame
 use Rattle.rules.specs.contracts.state.Hold
@@ -39,29 +39,29 @@ module _ (F : Field) (n : ℕ) (xs : List F.Value) (vs : List Val) (p : shadow (
   array_at : (i : ℕ) (d : F.Value) → i < n → (v : Val) × shadow (F.row.own_val (F.into (get_or xs i d)) (v ∷ []))
   array_at i d h = each_at F xs p.0 i d (rw array_long h) p.1.1
 
-frame-typed : (f : Frame) (vs : List Val) → shadow ((Rattle.rules.specs.contracts.state.Frame.the_field).row.own_val ((Rattle.rules.specs.contracts.state.Frame.the_field).into f) vs) → FitsFrame f
-frame-typed f vs p = record { offset = search rules; body = search rules; runs = search rules; first = search rules }
+frame_typed : (f : Frame) (vs : List Val) → shadow ((Rattle.rules.specs.contracts.state.Frame.the_field).row.own_val ((Rattle.rules.specs.contracts.state.Frame.the_field).into f) vs) → FitsFrame f
+frame_typed f vs p = record { offset = search rules; body = search rules; runs = search rules; first = search rules }
 
-hold-typed : (h : Hold) (vs : List Val) → shadow ((Rattle.rules.specs.contracts.state.Hold.the_field).row.own_val ((Rattle.rules.specs.contracts.state.Hold.the_field).into h) vs) → FitsHold h
-hold-typed h vs p = record { phase = search rules; clock = search rules }
+hold_typed : (h : Hold) (vs : List Val) → shadow ((Rattle.rules.specs.contracts.state.Hold.the_field).row.own_val ((Rattle.rules.specs.contracts.state.Hold.the_field).into h) vs) → FitsHold h
+hold_typed h vs p = record { phase = search rules; clock = search rules }
 
-acc-typed : (a : Accumulator) (vs : List Val) → shadow ((Rattle.rules.specs.contracts.state.Accumulator.the_field).row.own_val ((Rattle.rules.specs.contracts.state.Accumulator.the_field).into a) vs) → FitsAccumulator a
-acc-typed a vs p = record { value = search rules; owner = search rules }
+acc_typed : (a : Accumulator) (vs : List Val) → shadow ((Rattle.rules.specs.contracts.state.Accumulator.the_field).row.own_val ((Rattle.rules.specs.contracts.state.Accumulator.the_field).into a) vs) → FitsAccumulator a
+acc_typed a vs p = record { value = search rules; owner = search rules }
 
-activity-typed : (a : Activity) (vs : List Val) → shadow ((Rattle.rules.specs.contracts.state.Activity.the_field).row.own_val ((Rattle.rules.specs.contracts.state.Activity.the_field).into a) vs) → FitsActivity a
-activity-typed a vs p =
+activity_typed : (a : Activity) (vs : List Val) → shadow ((Rattle.rules.specs.contracts.state.Activity.the_field).row.own_val ((Rattle.rules.specs.contracts.state.Activity.the_field).into a) vs) → FitsActivity a
+activity_typed a vs p =
     let q = p.1.1 in
     record {
       register = q.0.1;
       spawner = search rules;
       depth = search rules;
       names = λ n h. (array_at u8-field 8 a.accumulators _ q.1.1.1.0 n 0 h).1.1;
-      holds = λ k h. let x = array_at Rattle.rules.specs.contracts.state.Hold.the_field 8 a.holds _ q.1.1.0 k noHold h in hold-typed _ _ x.1;
-      frames = λ d h. let x = array_at Rattle.rules.specs.contracts.state.Frame.the_field 16 a.frames _ q.1.0 d noFrame h in frame-typed _ _ x.1;
+      holds = λ k h. let x = array_at Rattle.rules.specs.contracts.state.Hold.the_field 8 a.holds _ q.1.1.0 k no_hold h in hold_typed _ _ x.1;
+      frames = λ d h. let x = array_at Rattle.rules.specs.contracts.state.Frame.the_field 16 a.frames _ q.1.0 d no_frame h in frame_typed _ _ x.1;
     }
 
-activity-sized : (a : Activity) (vs : List Val) → shadow ((Rattle.rules.specs.contracts.state.Activity.the_field).row.own_val ((Rattle.rules.specs.contracts.state.Activity.the_field).into a) vs) → SizedActivity a
-activity-sized a vs p =
+activity_sized : (a : Activity) (vs : List Val) → shadow ((Rattle.rules.specs.contracts.state.Activity.the_field).row.own_val ((Rattle.rules.specs.contracts.state.Activity.the_field).into a) vs) → SizedActivity a
+activity_sized a vs p =
     let q = p.1.1 in
     record {
       frames16 = array_long Rattle.rules.specs.contracts.state.Frame.the_field 16 a.frames _ q.1.0;
@@ -73,8 +73,8 @@ activity-sized a vs p =
 
 -- So its bytes are those of no other state.
 module _ (s : State) (vs : List Val) (p : shadow ((Rattle.rules.specs.contracts.state.State.the_field).row.own_val ((Rattle.rules.specs.contracts.state.State.the_field).into s) vs)) where
-  state-fits : FitsState s
-  state-fits =
+  state_fits : FitsState s
+  state_fits =
       let q = p.1.1 in
       record {
         steps = search rules;
@@ -82,19 +82,19 @@ module _ (s : State) (vs : List Val) (p : shadow ((Rattle.rules.specs.contracts.
         clocks = search rules;
         accumulators = search rules;
         cells = λ x h. (array_at u32-field 16 s.cells _ q.0 x 0 h).1.1;
-        accs = λ n h. let x = array_at Rattle.rules.specs.contracts.state.Accumulator.the_field 16 s.accs _ q.1.1.0 n noAccumulator h in acc-typed _ _ x.1;
-        acts = λ i h. let x = array_at Rattle.rules.specs.contracts.state.Activity.the_field 64 s.acts _ q.1.0 i absent h in activity-typed _ _ x.1;
+        accs = λ n h. let x = array_at Rattle.rules.specs.contracts.state.Accumulator.the_field 16 s.accs _ q.1.1.0 n no_accumulator h in acc_typed _ _ x.1;
+        acts = λ i h. let x = array_at Rattle.rules.specs.contracts.state.Activity.the_field 64 s.acts _ q.1.0 i absent h in activity_typed _ _ x.1;
       }
 
-  state-sized : Sized s
-  state-sized =
+  state_sized : Sized s
+  state_sized =
       let q = p.1.1 in
       record {
         acts64 = array_long Rattle.rules.specs.contracts.state.Activity.the_field 64 s.acts _ q.1.0;
         accs16 = array_long Rattle.rules.specs.contracts.state.Accumulator.the_field 16 s.accs _ q.1.1.0;
         cells16 = array_long u32-field 16 s.cells _ q.0;
-        each = λ i h. let x = array_at Rattle.rules.specs.contracts.state.Activity.the_field 64 s.acts _ q.1.0 i absent h in activity-sized _ _ x.1;
+        each = λ i h. let x = array_at Rattle.rules.specs.contracts.state.Activity.the_field 64 s.acts _ q.1.0 i absent h in activity_sized _ _ x.1;
       }
 
   pub fitting : Fitting s
-  fitting = record { sized = state-sized; fits = state-fits }
+  fitting = record { sized = state_sized; fits = state_fits }

@@ -1,7 +1,7 @@
 // The entries that are read back from the bytes of a step.
 ghost use Rattle.std.specs.Prelude.{◌≡◌, true, ◌<◌, length};
 ghost use Rattle.rules.specs.State.{act};
-ghost use Rattle.encoding.specs.Decode.{state_of, fieldsEncode};
+ghost use Rattle.encoding.specs.Decode.{state_of, fields_encode};
 ghost use Rattle.machine.specs.After.{entry};
 
 use encoding::activities::activity_at;
@@ -21,7 +21,7 @@ pub fn entry_of(n: usize) -> usize
 // An activity of the state that bytes encode.
 pub fn activity_in(bytes: &[u8], i: usize) -> Activity
     requires bytes_len { length bytes.now ≡ 13776 }
-    requires bytes_value { fieldsEncode bytes.now ≡ true }
+    requires bytes_value { fields_encode bytes.now ≡ true }
     requires i_bound { i < 64 }
     ensures { result ≡ act (state_of bytes.now) i }
 {

@@ -1,8 +1,8 @@
 // The machine's calls by value: start, one step, the ready set, the standing sheet and whole runs. Each is the call in place, in bytes of its own.
 ghost use Rattle.std.specs.Prelude.{◌≡◌};
-ghost use Rattle.rules.specs.Steps.{base, start, step, ready, registrations, registrationsNumber};
+ghost use Rattle.rules.specs.Steps.{base, start, step, ready, registrations, registrations_number};
 ghost use Rattle.machine.specs.Ran.{Runs, Traces};
-ghost use Rattle.machine.specs.Numbers.{isRefusal, answer_of};
+ghost use Rattle.machine.specs.Numbers.{is_refusal, answer_of};
 
 use after::{activity_in, entry_of};
 use encoding::accumulators::accumulators_at;
@@ -39,7 +39,7 @@ pub fn start(table: &[u8]) -> Stepped
 
 // Whether a step's number turns it down.
 fn is_refusal(number: u8) -> bool
-    ensures { result ≡ isRefusal number }
+    ensures { result ≡ is_refusal number }
 {
     0 < number && number < 100
 }
@@ -95,7 +95,7 @@ pub fn ready(table: &[u8], s: State) -> Ready
 
 // The standing sheet: numbers 1 to 13.
 pub fn registrations(table: &[u8], s: State, number: &mut u8) -> [[u8; 16]; 64]
-    ensures { (result ≡ registrations base table.now s) × (number.new ≡ registrationsNumber base table.now s) }
+    ensures { (result ≡ registrations base table.now s) × (number.new ≡ registrations_number base table.now s) }
 {
     let mut bytes = [0u8; 13776];
     encode(s, &mut bytes);

@@ -3,11 +3,11 @@ use Rattle.std.proofs.Common.{◌≡◌, ℕ, ◌+◌, ◌-◌, ◌%◌, ◌^◌
 use Rattle.rules.specs.declared.state.Activity.{Activity}
 use Rattle.rules.specs.declared.state.State.{State}
 use Rattle.rules.specs.State.{act, frame, top}
-use Rattle.fields.specs.Lent.{Reads, Writes, ReadsAct, WritesAct, withAct, withSteps, withFrame, onward}
+use Rattle.fields.specs.Lent.{Reads, Writes, ReadsAct, WritesAct, with_act, with_steps, with_frame, onward}
 use Rattle.moves.specs.Moves.{Counts, GoesOn}
 
-pub count-on : {b c : List ℕ} {n m : ℕ} → Reads (λ (s : State). s.steps) b n → m ≡ (n + 1) % 2 ^ 16 → Writes (λ (s : State). withSteps s m) b c → Counts b c 0
-count-on {b} {c} {n} {m} f q w =
+pub count_on : {b c : List ℕ} {n m : ℕ} → Reads (λ (s : State). s.steps) b n → m ≡ (n + 1) % 2 ^ 16 → Writes (λ (s : State). with_steps s m) b c → Counts b c 0
+count_on {b} {c} {n} {m} f q w =
     record {
       number = refl;
       counts =
@@ -20,8 +20,8 @@ count-on {b} {c} {n} {m} f q w =
 -- The stack's depth is read, the offset at its top, and that and so many bytes are written.
 pub went_on : {b b₁ c : List ℕ} {i d o size n r : ℕ} → ReadsAct (λ (a : Activity). a.depth) b i d
     → (d - 1 < 16 → ReadsAct (λ (a : Activity). (frame a (d - 1)).offset) b i o) → n ≡ (o + size) % 2 ^ 16
-    → (d - 1 < 16 → WritesAct (λ (a : Activity). withFrame a (d - 1) (onward (frame a (d - 1)) n)) b b₁ i) → Counts b₁ c r → GoesOn b c i size r
-unfolding withAct withSteps
+    → (d - 1 < 16 → WritesAct (λ (a : Activity). with_frame a (d - 1) (onward (frame a (d - 1)) n)) b b₁ i) → Counts b₁ c r → GoesOn b c i size r
+unfolding with_act with_steps
 went_on {i = i} {d = d} {o = o} {size = size} {n = n} f g e w k =
     record {
       number = k.number;

@@ -5,8 +5,8 @@ use Rattle.program.specs.declared.command.Command.{Command}
 use Rattle.rules.specs.declared.state.Hold.{Hold}
 use Rattle.rules.specs.declared.state.Activity.{Activity}
 use Rattle.rules.specs.declared.state.State.{State}
-use Rattle.rules.specs.Search.{someBelow}
-use Rattle.rules.specs.State.{noHold, isAtBarrier}
+use Rattle.rules.specs.Search.{some_below}
+use Rattle.rules.specs.State.{no_hold, is_at_barrier}
 use Rattle.rules.specs.Clocks.{is_held}
 
 -- A 65th activity, a 17th clock or a 17th accumulator is needed: ASYNC, CLOCK and ACC make them.
@@ -14,17 +14,17 @@ unfoldable pub overfull : State → Command → Bool
 overfull s c = (opcode c == 0x05 && nat_le 64 s.activities) || ((opcode c == 0x02 && nat_le 16 s.clocks) || (opcode c == 0x08 && nat_le 16 s.accumulators))
 
 -- A held clock is in the last phase that there is.
-abbrev pub isLast : Hold → Bool
-isLast h = is_held h.registration && h.phase == 65535
+abbrev pub is_last : Hold → Bool
+is_last h = is_held h.registration && h.phase == 65535
 
 -- One of the eight is.
-unfoldable pub someLast : List Hold → Bool
-someLast hs = someBelow 8 (λ k. isLast (slice_index_or hs k noHold))
+unfoldable pub some_last : List Hold → Bool
+some_last hs = some_below 8 (λ k. is_last (slice_index_or hs k no_hold))
 
 -- Phase 65,536 is needed: only passing raises a phase, and who is at a meeting passes.
 unfoldable pub overtakes : Activity → Bool
-overtakes a = isAtBarrier a.status && someLast a.holds
+overtakes a = is_at_barrier a.status && some_last a.holds
 
 -- Number 17: a fault needs nothing but a step.
-unfoldable pub exceedsAt : ℕ → State → Activity → ℕ → Command → Bool
-exceedsAt work s a f c = nat_le work s.steps || (f == 0 && (overfull s c || overtakes a))
+unfoldable pub exceeds_at : ℕ → State → Activity → ℕ → Command → Bool
+exceeds_at work s a f c = nat_le work s.steps || (f == 0 && (overfull s c || overtakes a))

@@ -1,6 +1,6 @@
 // The fault of READ and RESET.
 ghost use Rattle.std.specs.Prelude.{◌<◌};
-ghost use Rattle.rules.specs.Clocks.{holdsSome};
+ghost use Rattle.rules.specs.Clocks.{holds_some};
 ghost use Rattle.fields.specs.Lent.{ReadsAct};
 ghost use Rattle.moves.specs.Moves.{ReadFault};
 
@@ -12,7 +12,7 @@ use program::command::wide;
 
 // Whether the activity holds a clock.
 fn holds_some(state: &[u8], i: usize) -> bool
-    ensures { ReadsAct holdsSome state.now i result }
+    ensures { ReadsAct holds_some state.now i result }
 {
     let mut k: usize = 0;
     while k < 8 {

@@ -1,15 +1,15 @@
 // Tests of a status, of a registration and of a clock name that is free.
 ghost use Rattle.std.specs.Prelude.{◌≡◌};
-ghost use Rattle.rules.specs.State.{isEnded, isAtBarrier};
-ghost use Rattle.rules.specs.Clocks.{is_held, isLive};
-ghost use Rattle.rules.specs.WellFormed.{isNoHold};
+ghost use Rattle.rules.specs.State.{is_ended, is_at_barrier};
+ghost use Rattle.rules.specs.Clocks.{is_held, is_live};
+ghost use Rattle.rules.specs.WellFormed.{is_no_hold};
 
 use super::numbers::registration_number;
 use rules::state::{Hold, Registration, Status};
 
 // A faulted activity counts as ended.
 pub fn is_ended(status: Status) -> bool
-    ensures { result ≡ isEnded status }
+    ensures { result ≡ is_ended status }
 {
     match status {
         Status::Running => false,
@@ -20,7 +20,7 @@ pub fn is_ended(status: Status) -> bool
 }
 
 pub fn is_at_barrier(status: Status) -> bool
-    ensures { result ≡ isAtBarrier status }
+    ensures { result ≡ is_at_barrier status }
 {
     match status {
         Status::Running => false,
@@ -41,7 +41,7 @@ pub fn is_held(registration: Registration) -> bool
 }
 
 pub fn is_live(registration: Registration) -> bool
-    ensures { result ≡ isLive registration }
+    ensures { result ≡ is_live registration }
 {
     match registration {
         Registration::Free => false,
@@ -52,7 +52,7 @@ pub fn is_live(registration: Registration) -> bool
 
 // Whether a hold is all 0.
 pub fn is_no_hold(hold: Hold) -> bool
-    ensures { result ≡ isNoHold hold }
+    ensures { result ≡ is_no_hold hold }
 {
     if hold.phase != 0 {
         return false;

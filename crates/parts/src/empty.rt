@@ -1,12 +1,12 @@
 // Unused entries, the state of zeros and the start state.
 ghost use Rattle.std.specs.Prelude.{◌≡◌};
-ghost use Rattle.rules.specs.State.{noFrame, noHold, noActivity, noAccumulator, zeroState};
-ghost use Rattle.rules.specs.Steps.{startState};
+ghost use Rattle.rules.specs.State.{no_frame, no_hold, no_activity, no_accumulator, zero_state};
+ghost use Rattle.rules.specs.Steps.{start_state};
 
 use rules::state::{Accumulator, Activity, Frame, Hold, Operator, Registration, State, Status};
 
 pub fn no_frame() -> Frame
-    ensures { result ≡ noFrame }
+    ensures { result ≡ no_frame }
 {
     Frame {
         offset: 0,
@@ -17,7 +17,7 @@ pub fn no_frame() -> Frame
 }
 
 pub fn no_hold() -> Hold
-    ensures { result ≡ noHold }
+    ensures { result ≡ no_hold }
 {
     Hold {
         phase: 0,
@@ -27,7 +27,7 @@ pub fn no_hold() -> Hold
 }
 
 pub fn no_activity() -> Activity
-    ensures { result ≡ noActivity }
+    ensures { result ≡ no_activity }
 {
     Activity {
         register: 0,
@@ -41,7 +41,7 @@ pub fn no_activity() -> Activity
 }
 
 pub fn no_accumulator() -> Accumulator
-    ensures { result ≡ noAccumulator }
+    ensures { result ≡ no_accumulator }
 {
     Accumulator {
         value: 0,
@@ -51,7 +51,7 @@ pub fn no_accumulator() -> Accumulator
 }
 
 pub fn zero_state() -> State
-    ensures { result ≡ zeroState }
+    ensures { result ≡ zero_state }
 {
     State {
         cells: [0u32; 16],
@@ -66,7 +66,7 @@ pub fn zero_state() -> State
 
 // Activity 0 at the first command of body 0.
 pub fn start_state() -> State
-    ensures { result ≡ startState }
+    ensures { result ≡ start_state }
 {
     let main = Activity {
         depth: 1,

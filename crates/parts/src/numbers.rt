@@ -1,12 +1,12 @@
 // The paper's number for each value of an enum.
 ghost use Rattle.std.specs.Prelude.{◌≡◌};
-ghost use Rattle.rules.specs.State.{faultNumber, faultOf, registrationNumber, operatorNumber, operatorOf, statusAnswer, answerNumber};
+ghost use Rattle.rules.specs.State.{fault_number, fault_of, registration_number, operator_number, operator_of, status_answer, answer_number};
 
 use rules::answer::Answer;
 use rules::state::{Fault, Operator, Registration, Status};
 
 pub fn fault_number(fault: Fault) -> u8
-    ensures { result ≡ faultNumber fault }
+    ensures { result ≡ fault_number fault }
 {
     match fault {
         Fault::F1 => 1,
@@ -22,7 +22,7 @@ pub fn fault_number(fault: Fault) -> u8
 
 // The fault of a number from 1 on.
 pub fn fault_of(number: u8) -> Fault
-    ensures { result ≡ faultOf number }
+    ensures { result ≡ fault_of number }
 {
     match number {
         2 => Fault::F2,
@@ -37,7 +37,7 @@ pub fn fault_of(number: u8) -> Fault
 }
 
 pub fn registration_number(registration: Registration) -> u8
-    ensures { result ≡ registrationNumber registration }
+    ensures { result ≡ registration_number registration }
 {
     match registration {
         Registration::Free => 0,
@@ -47,7 +47,7 @@ pub fn registration_number(registration: Registration) -> u8
 }
 
 pub fn operator_number(operator: Operator) -> u8
-    ensures { result ≡ operatorNumber operator }
+    ensures { result ≡ operator_number operator }
 {
     match operator {
         Operator::Sum => 0,
@@ -57,7 +57,7 @@ pub fn operator_number(operator: Operator) -> u8
 }
 
 pub fn operator_of(number: u8) -> Operator
-    ensures { result ≡ operatorOf number }
+    ensures { result ≡ operator_of number }
 {
     match number {
         1 => Operator::Minimum,
@@ -68,7 +68,7 @@ pub fn operator_of(number: u8) -> Operator
 
 // 0 for a step, 100 plus f for fault f.
 pub fn status_answer(status: Status) -> u8
-    ensures { result ≡ statusAnswer status }
+    ensures { result ≡ status_answer status }
 {
     match status {
         Status::Running => 0,
@@ -80,7 +80,7 @@ pub fn status_answer(status: Status) -> u8
 
 // The number of an answer, for a host that steps by value.
 pub fn answer_number(answer: Answer) -> u8
-    ensures { result ≡ answerNumber answer }
+    ensures { result ≡ answer_number answer }
 {
     match answer {
         Answer::Accepted(status) => status_answer(status),

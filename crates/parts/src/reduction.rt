@@ -1,6 +1,6 @@
 // Accumulators: what a new one holds, and how one reduces.
 ghost use Rattle.std.specs.Prelude.{◌≡◌};
-ghost use Rattle.rules.specs.Effects.{reduce, newValue, newAccumulator};
+ghost use Rattle.rules.specs.Effects.{reduce, new_value, new_accumulator};
 
 use rules::state::{Accumulator, Operator};
 
@@ -15,7 +15,7 @@ pub fn reduce(operator: Operator, x: u32, y: u32) -> u32
 }
 
 pub fn new_value(operator: Operator) -> u32
-    ensures { result ≡ newValue operator }
+    ensures { result ≡ new_value operator }
 {
     match operator {
         Operator::Sum => 0,
@@ -25,7 +25,7 @@ pub fn new_value(operator: Operator) -> u32
 }
 
 pub fn new_accumulator(owner: u8, operator: Operator) -> Accumulator
-    ensures { result ≡ newAccumulator owner operator }
+    ensures { result ≡ new_accumulator owner operator }
 {
     Accumulator {
         value: new_value(operator),

@@ -11,15 +11,15 @@ use lib.Dec.{leb, eqb}
 use borrow.Author.Count.{below_more}
 use borrow.Author.Tests.{lt-ltb, le-leb}
 use Rattle.rules.specs.declared.state.State.{State}
-use Rattle.rules.specs.State.{act, isFaulted, ended}
-use Rattle.rules.specs.Search.{someBelow, countBelow, chain}
-use Rattle.rules.specs.Tree.{spawnerOf, descends, inside}
-use Rattle.rules.specs.Faults.{faultedInside}
-use Rattle.rules.specs.Waiting.{unendedBelow, unendedInside}
-use Rattle.rules.proofs.Tests.{decide, true-false, not-true}
-use Rattle.rules.proofs.Search.{someBelow-all, chain-above, chain-step}
-use Rattle.rules.proofs.Delivered.{unended-faultless}
-use Rattle.rules.proofs.Counting.{counted, uncounted, last, count-alike, count_none}
+use Rattle.rules.specs.State.{act, is_faulted, ended}
+use Rattle.rules.specs.Search.{some_below, count_below, chain}
+use Rattle.rules.specs.Tree.{spawner_of, descends, inside}
+use Rattle.rules.specs.Faults.{faulted_inside}
+use Rattle.rules.specs.Waiting.{unended_below, unended_inside}
+use Rattle.rules.proofs.Tests.{decide, true_false, not-true}
+use Rattle.rules.proofs.Search.{some_below_all, chain_above, chain_step}
+use Rattle.rules.proofs.Delivered.{unended_faultless}
+use Rattle.rules.proofs.Counting.{counted, uncounted, last, count_alike, count_none}
 use Rattle.places.specs.Rooted.{Rooted}
 use Rattle.places.proofs.Searches.{some_more}
 
@@ -27,8 +27,8 @@ use Rattle.places.proofs.Searches.{some_more}
 pub record Passed (s : State) (w first : ℕ) (marks : List Bool) (count : ℕ) (found : Bool) (x : ℕ) : Type 0 where
   pub sized : length marks ≡ 64
   pub marked : (k : ℕ) → k < x → get_or marks k false ≡ inside s w first k
-  pub counts : count ≡ countBelow x (unendedInside s w first)
-  pub finds : found ≡ someBelow x (faultedInside s w first)
+  pub counts : count ≡ count_below x (unended_inside s w first)
+  pub finds : found ≡ some_below x (faulted_inside s w first)
 
 -- Nobody up to the owner is inside.
 pub outside : (s : State) (w first x : ℕ) → x ≤ w → inside s w first x ≡ false
@@ -36,48 +36,48 @@ unfolding inside
 outside s w first x h = go (decide (inside s w first x))
   where
     go : (inside s w first x ≡ true) ⊎ (inside s w first x ≡ false) → inside s w first x ≡ false
-    go (inl e) = let l = chain-above (spawnerOf s) (leb first) w 64 x e in absurd (let z : ⊥ = omega arith in z)
+    go (inl e) = let l = chain_above (spawner_of s) (leb first) w 64 x e in absurd (let z : ⊥ = omega arith in z)
     go (inr e) = e
 
-not-unended : (s : State) (w first x : ℕ) → inside s w first x ≡ false → unendedInside s w first x ≡ false
-unfolding unendedInside
-not-unended s w first x e = rw e
+not_unended : (s : State) (w first x : ℕ) → inside s w first x ≡ false → unended_inside s w first x ≡ false
+unfolding unended_inside
+not_unended s w first x e = rw e
 
-not-faulted : (s : State) (w first x : ℕ) → inside s w first x ≡ false → faultedInside s w first x ≡ false
-unfolding faultedInside
-not-faulted s w first x e = rw e
+not_faulted : (s : State) (w first x : ℕ) → inside s w first x ≡ false → faulted_inside s w first x ≡ false
+unfolding faulted_inside
+not_faulted s w first x e = rw e
 
 -- Where nobody below x is inside, nobody is counted or found.
 module _ (s : State) (w first x : ℕ) (h : (k : ℕ) → k < x → inside s w first k ≡ false) where
-  pub none-unended : 0 ≡ countBelow x (unendedInside s w first)
-  none-unended = sym (count_none x (unendedInside s w first) (λ k l. not-unended s w first k (h k l)))
+  pub none_unended : 0 ≡ count_below x (unended_inside s w first)
+  none_unended = sym (count_none x (unended_inside s w first) (λ k l. not_unended s w first k (h k l)))
 
-  pub none-faulted : false ≡ someBelow x (faultedInside s w first)
-  none-faulted = sym (someBelow-all x (faultedInside s w first) (λ k l e. true-false (faultedInside s w first k) e (not-faulted s w first k (h k l))))
+  pub none_faulted : false ≡ some_below x (faulted_inside s w first)
+  none_faulted = sym (some_below_all x (faulted_inside s w first) (λ k l e. true_false (faulted_inside s w first k) e (not_faulted s w first k (h k l))))
 
   pub passed_none : x ≤ 64 → Passed s w first (replicate 64 false) 0 false x
   passed_none few = record {
     sized = length-replicate 64 false;
     marked = λ k l. get_or-replicate 64 k false false (omega arith) ∙ sym (h k l);
-    counts = none-unended;
-    finds = none-faulted;
+    counts = none_unended;
+    finds = none_faulted;
   }
 
 module _ (s : State) (r : Rooted s) (w first : ℕ) {marks : List Bool} {count : ℕ} {found : Bool} {x : ℕ} (p : Passed s w first marks count found x) (low : w < x) (made : x < s.activities) where
   -- An activity is inside by its own spawning, or with its spawner.
-  pub joined : {b : Bool} → b ≡ (eqb (spawnerOf s x) w && leb first x) || get_or marks (spawnerOf s x) false → b ≡ inside s w first x
+  pub joined : {b : Bool} → b ≡ (eqb (spawner_of s x) w && leb first x) || get_or marks (spawner_of s x) false → b ≡ inside s w first x
   unfolding inside
   joined {b} e =
       let few = r.few in
       let falls = r.falls x (omega arith) made in
-      let q = chain-step (spawnerOf s) s.activities r.falls (leb first) w 64 x made (omega arith) in
-      e ∙ ap (λ (u : Bool). (eqb (spawnerOf s x) w && leb first x) || u) (p.marked (spawnerOf s x) falls) ∙ sym (rw (lt-ltb w x low) at q)
+      let q = chain_step (spawner_of s) s.activities r.falls (leb first) w 64 x made (omega arith) in
+      e ∙ ap (λ (u : Bool). (eqb (spawner_of s x) w && leb first x) || u) (p.marked (spawner_of s x) falls) ∙ sym (rw (lt-ltb w x low) at q)
 
   module _ {b : Bool} (e : b ≡ inside s w first x) where
     -- One more is passed, with the count after it, and by whether it has faulted.
-    passed_on : {next : ℕ} {f : Bool} → next ≡ countBelow (x + 1) (unendedInside s w first) → f ≡ faultedInside s w first x → {now : Bool} → now ≡ f || found
+    passed_on_lem : {next : ℕ} {f : Bool} → next ≡ count_below (x + 1) (unended_inside s w first) → f ≡ faulted_inside s w first x → {now : Bool} → now ≡ f || found
         → Passed s w first (set marks x b) next now (x + 1)
-    passed_on n f o =
+    passed_on_lem n f o =
         let few = r.few in
         let long = p.sized in
         record {
@@ -86,61 +86,61 @@ module _ (s : State) (r : Rooted s) (w first : ℕ) {marks : List Bool} {count :
               below_more (λ (k : ℕ). get_or (set marks x b) k false ≡ inside s w first k) x (λ k l. get_or-set_other marks x k b false (λ q. omega arith) ∙ p.marked k l)
               (get_or-set_same marks x b false (omega arith) ∙ e);
           counts = n;
-          finds = o ∙ rw (f, p.finds) (sym (some_more x (faultedInside s w first)));
+          finds = o ∙ rw (f, p.finds) (sym (some_more x (faulted_inside s w first)));
         }
 
     -- It is not inside.
-    pub passed-outside : b ≡ false → Passed s w first (set marks x b) count found (x + 1)
-    passed-outside f =
+    pub passed_outside : b ≡ false → Passed s w first (set marks x b) count found (x + 1)
+    passed_outside f =
         let n : inside s w first x ≡ false = sym e ∙ f in
-        passed_on (uncounted (unendedInside s w first) x count false p.counts (sym (not-unended s w first x n)) refl) (sym (not-faulted s w first x n)) refl
+        passed_on_lem (uncounted (unended_inside s w first) x count false p.counts (sym (not_unended s w first x n)) refl) (sym (not_faulted s w first x n)) refl
 
     -- It is inside, and has not ended, ended well, or faulted.
     module _ (f : b ≡ true) {u : Bool} (g : u ≡ not (ended s x)) where
-      looked : u ≡ unendedInside s w first x
-      unfolding unendedInside
+      looked : u ≡ unended_inside s w first x
+      unfolding unended_inside
       looked = g ∙ rw (sym e ∙ f)
 
-      fault-looked : {v : Bool} → v ≡ isFaulted (act s x).status → v ≡ faultedInside s w first x
-      unfolding faultedInside
-      fault-looked h = h ∙ rw (sym e ∙ f)
+      fault_looked : {v : Bool} → v ≡ is_faulted (act s x).status → v ≡ faulted_inside s w first x
+      unfolding faulted_inside
+      fault_looked h = h ∙ rw (sym e ∙ f)
 
-      pub passed-unended : u ≡ true → Passed s w first (set marks x b) (count + 1) found (x + 1)
-      passed-unended h =
-          passed_on (counted (unendedInside s w first) x count u p.counts looked h)
-          (fault-looked (sym (unended-faultless (act s x).status (not-true (ended s x) (sym g ∙ h))))) refl
+      pub passed_unended : u ≡ true → Passed s w first (set marks x b) (count + 1) found (x + 1)
+      passed_unended h =
+          passed_on_lem (counted (unended_inside s w first) x count u p.counts looked h)
+          (fault_looked (sym (unended_faultless (act s x).status (not-true (ended s x) (sym g ∙ h))))) refl
 
-      module _ (h : u ≡ false) {v : Bool} (k : v ≡ isFaulted (act s x).status) where
-        same_count : count ≡ countBelow (x + 1) (unendedInside s w first)
-        same_count = uncounted (unendedInside s w first) x count u p.counts looked h
+      module _ (h : u ≡ false) {v : Bool} (k : v ≡ is_faulted (act s x).status) where
+        same_count : count ≡ count_below (x + 1) (unended_inside s w first)
+        same_count = uncounted (unended_inside s w first) x count u p.counts looked h
 
-        pub passed-ended : v ≡ false → Passed s w first (set marks x b) count found (x + 1)
-        passed-ended n = passed_on same_count (fault-looked k) (rw n)
+        pub passed_ended : v ≡ false → Passed s w first (set marks x b) count found (x + 1)
+        passed_ended n = passed_on_lem same_count (fault_looked k) (rw n)
 
-        pub passed-faulted : v ≡ true → Passed s w first (set marks x b) count true (x + 1)
-        passed-faulted n = passed_on same_count (fault-looked k) (rw n)
+        pub passed_faulted : v ≡ true → Passed s w first (set marks x b) count true (x + 1)
+        passed_faulted n = passed_on_lem same_count (fault_looked k) (rw n)
 
 -- All are passed.
 module _ (s : State) (w first : ℕ) {marks : List Bool} {count : ℕ} {found : Bool} {x : ℕ} (p : Passed s w first marks count found x) (h : x ≤ s.activities) (l : s.activities ≤ x) where
-  pub all-counted : count ≡ countBelow s.activities (unendedInside s w first)
-  all-counted = last (unendedInside s w first) x s.activities count h l p.counts
+  pub all_counted : count ≡ count_below s.activities (unended_inside s w first)
+  all_counted = last (unended_inside s w first) x s.activities count h l p.counts
 
-  pub all-searched : found ≡ someBelow s.activities (faultedInside s w first)
-  all-searched = let q : x ≡ s.activities = omega arith in p.finds ∙ ap (λ (n : ℕ). someBelow n (faultedInside s w first)) q
+  pub all_searched : found ≡ some_below s.activities (faulted_inside s w first)
+  all_searched = let q : x ≡ s.activities = omega arith in p.finds ∙ ap (λ (n : ℕ). some_below n (faulted_inside s w first)) q
 
 -- ALL DESCENDANTS
 
-chain-any : (sp : ℕ → ℕ) (w n x : ℕ) → chain sp (λ y. true) w n x ≡ chain sp (leb 0) w n x
+chain_any : (sp : ℕ → ℕ) (w n x : ℕ) → chain sp (λ y. true) w n x ≡ chain sp (leb 0) w n x
 unfolding chain
-chain-any sp w zero x = refl
-chain-any sp w (suc n) x = let e : leb 0 x ≡ true = le-leb 0 x (omega arith) in rw (chain-any sp w n (sp x), e)
+chain_any sp w zero x = refl
+chain_any sp w (suc n) x = let e : leb 0 x ≡ true = le-leb 0 x (omega arith) in rw (chain_any sp w n (sp x), e)
 
 -- A descendant is one inside a finish that began before anyone was spawned.
-pub descends-inside : (s : State) (w x : ℕ) → descends s w x ≡ inside s w 0 x
+pub descends_inside : (s : State) (w x : ℕ) → descends s w x ≡ inside s w 0 x
 unfolding descends inside
-descends-inside s w x = chain-any (spawnerOf s) w 64 x
+descends_inside s w x = chain_any (spawner_of s) w 64 x
 
 -- So READ and RESET count those inside from number 0 on.
-pub unended-below : (s : State) (w : ℕ) → countBelow s.activities (unendedBelow s w) ≡ countBelow s.activities (unendedInside s w 0)
-unfolding unendedBelow unendedInside
-unended-below s w = count-alike s.activities (unendedBelow s w) (unendedInside s w 0) (λ k l. rw (descends-inside s w k))
+pub unended_below_lem : (s : State) (w : ℕ) → count_below s.activities (unended_below s w) ≡ count_below s.activities (unended_inside s w 0)
+unfolding unended_below unended_inside
+unended_below_lem s w = count_alike s.activities (unended_below s w) (unended_inside s w 0) (λ k l. rw (descends_inside s w k))

@@ -5,8 +5,8 @@ use mathlib.Core.List.{List}
 use mathlib.Core.Bool.{false}
 use Rattle.program.specs.Bodies.{program_of}
 use Rattle.rules.specs.declared.state.State.{State}
-use Rattle.rules.specs.State.{act, isEnded}
-use Rattle.rules.proofs.WellFormedStack.{stack-back}
+use Rattle.rules.specs.State.{act, is_ended}
+use Rattle.rules.proofs.WellFormedStack.{stack_back}
 use Rattle.rules.proofs.WellFormedFacts.{ActivityFacts, Facts, facts}
 use Rattle.places.specs.Known.{Fit}
 use Rattle.places.specs.Stack.{Stacked}
@@ -21,13 +21,13 @@ module _ {t : List ℕ} {starts : List ℕ} {s : State} (fit : Fit t starts s) w
   pub rooted : Rooted s
   rooted = record { few = fact.acts64; falls = λ x h m. (fact.spawned x m).lower h }
 
-  module _ {i : ℕ} (made : i < s.activities) (runs : isEnded (act s i).status ≡ false) where
+  module _ {i : ℕ} (made : i < s.activities) (runs : is_ended (act s i).status ≡ false) where
     own : ActivityFacts 65535 (program_of t) s.activities s.clocks s.accumulators i (act s i)
     own = fact.spawned i made
 
     -- An activity that has not ended has a stack.
     pub stack_of : Stacked (program_of t) (act s i)
-    stack_of = stacked (program_of t) s.activities (act s i) (stack-back (program_of t) s.activities (act s i) own.stack) (own.bodied runs)
+    stack_of = stacked (program_of t) s.activities (act s i) (stack_back (program_of t) s.activities (act s i) own.stack) (own.bodied runs)
 
     -- It can be asked whether it waits.
     pub placed : Placed t starts s (act s i)

@@ -6,7 +6,7 @@ use Rattle.program.specs.declared.command.Command.{Command}
 use Rattle.rules.specs.declared.state.Frame.{Frame}
 use Rattle.rules.specs.declared.state.State.{State}
 use Rattle.rules.specs.Tree.{here}
-use Rattle.rules.specs.WellFormed.{is_placed, wellFormed}
+use Rattle.rules.specs.WellFormed.{is_placed, well_formed}
 
 pub record Known (t : List ℕ) (starts : List ℕ) : Type 0 where
   pub scanned : scan t ≡ 0
@@ -15,7 +15,7 @@ pub record Known (t : List ℕ) (starts : List ℕ) : Type 0 where
 -- An accepted table and a well-formed state.
 pub record Fit (t : List ℕ) (starts : List ℕ) (s : State) : Type 0 where
   pub known : Known t starts
-  pub formed : wellFormed 65535 (program_of t) s ≡ true
+  pub formed : well_formed 65535 (program_of t) s ≡ true
 
 -- A frame stands on a command of an accepted table.
 pub record On (t : List ℕ) (f : Frame) (command : Command) : Type 0 where

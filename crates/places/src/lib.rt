@@ -1,7 +1,7 @@
 // The command that a frame stands on, read from an accepted table.
 ghost use Rattle.std.specs.Prelude.{◌≡◌, true};
 ghost use Rattle.program.specs.Bodies.{program_of};
-ghost use Rattle.rules.specs.Tree.{here, isFinish};
+ghost use Rattle.rules.specs.Tree.{here, is_finish};
 ghost use Rattle.rules.specs.WellFormed.{is_placed};
 ghost use Rattle.places.specs.Known.{Known};
 
@@ -29,7 +29,7 @@ pub fn command_at(table: &[u8], starts: &[usize], f: Frame) -> Command
 
 // Whether it is FINISH.
 pub fn is_finish(table: &[u8], starts: &[usize], f: Frame) -> bool
-    ensures { Known table.now starts.now → is_placed (program_of table.now) f ≡ true → result ≡ isFinish (here (program_of table.now) f).command }
+    ensures { Known table.now starts.now → is_placed (program_of table.now) f ≡ true → result ≡ is_finish (here (program_of table.now) f).command }
 {
     opcode(command_at(table, starts, f)) == FINISH
 }

@@ -20,8 +20,8 @@ pub apart : {A : Type 0} → ◌≡◌ {A = ℕ} 0 1 → A
 apart z = absurd (let y : ⊥ = omega arith in y)
 
 -- A test that passes does not fail.
-pub true-false : (a : Bool) → a ≡ true → a ≡ false → ⊥
-true-false a p q = apart (cc)
+pub true_false : (a : Bool) → a ≡ true → a ≡ false → ⊥
+true_false a p q = apart (cc)
 
 -- A test goes one way or the other.
 pub decide : (a : Bool) → (a ≡ true) ⊎ (a ≡ false)
@@ -29,27 +29,27 @@ decide true = inl refl
 decide false = inr refl
 
 -- Both tests pass.
-pub and-true : (a b : Bool) → a && b ≡ true → (a ≡ true) × (b ≡ true)
-and-true true b e = (refl, e)
-and-true false b e = absurd (true-false false e refl)
+pub and_true : (a b : Bool) → a && b ≡ true → (a ≡ true) × (b ≡ true)
+and_true true b e = (refl, e)
+and_true false b e = absurd (true_false false e refl)
 
 -- And the other way.
 pub and_intro : (a b : Bool) → a ≡ true → b ≡ true → a && b ≡ true
 and_intro a b p q = rw (p, q)
 
 -- Not both pass, and the first does.
-pub and-false : (a b : Bool) → a && b ≡ false → a ≡ true → b ≡ false
-and-false true b p q = p
-and-false false b p q = absurd (true-false false q refl)
+pub and_false : (a b : Bool) → a && b ≡ false → a ≡ true → b ≡ false
+and_false true b p q = p
+and_false false b p q = absurd (true_false false q refl)
 
 -- The same, where the second is negated.
-pub and-not : (a b : Bool) → a && not b ≡ false → a ≡ true → b ≡ true
-and-not a b p q = not-false b (and-false a (not b) p q)
+pub and_not : (a b : Bool) → a && not b ≡ false → a ≡ true → b ≡ true
+and_not a b p q = not-false b (and_false a (not b) p q)
 
 -- One of two tests passes.
-pub or-true : (a b : Bool) → a || b ≡ true → (a ≡ true) ⊎ (b ≡ true)
-or-true true b e = inl refl
-or-true false b e = inr e
+pub or_true : (a b : Bool) → a || b ≡ true → (a ≡ true) ⊎ (b ≡ true)
+or_true true b e = inl refl
+or_true false b e = inr e
 
 -- And the other way, by the first,
 pub or_left : (a b : Bool) → a ≡ true → a || b ≡ true
@@ -61,18 +61,18 @@ or_right true b e = refl
 or_right false b e = e
 
 -- Neither of two tests passes.
-pub or-false : (a b : Bool) → a || b ≡ false → (a ≡ false) × (b ≡ false)
-or-false true b e = absurd (true-false true refl e)
-or-false false b e = (refl, e)
+pub or_false : (a b : Bool) → a || b ≡ false → (a ≡ false) × (b ≡ false)
+or_false true b e = absurd (true_false true refl e)
+or_false false b e = (refl, e)
 
 -- And the other way.
-pub or-none : (a b : Bool) → a ≡ false → b ≡ false → a || b ≡ false
-or-none a b p q = rw (p, q)
+pub or_none : (a b : Bool) → a ≡ false → b ≡ false → a || b ≡ false
+or_none a b p q = rw (p, q)
 
 -- The second passes where the first does.
 pub implied : (a b : Bool) → not a || b ≡ true → a ≡ true → b ≡ true
 implied true b e p = e
-implied false b e p = absurd (true-false false p refl)
+implied false b e p = absurd (true_false false p refl)
 
 -- A number is 0 where another branch is not 0: the test passed.
 pub passed : (b : Bool) (x m : ℕ) → cond b x (suc m) ≡ 0 → (b ≡ true) × (x ≡ 0)
@@ -80,9 +80,9 @@ passed true x m e = (refl, e)
 passed false x m e = absurd (let y : ⊥ = omega arith in y)
 
 -- The same, where the test failed.
-pub cond-zero : (b : Bool) (n m : ℕ) → cond b (suc n) m ≡ 0 → (b ≡ false) × (m ≡ 0)
-cond-zero true n m e = absurd (let y : ⊥ = omega arith in y)
-cond-zero false n m e = (refl, e)
+pub cond_zero : (b : Bool) (n m : ℕ) → cond b (suc n) m ≡ 0 → (b ≡ false) × (m ≡ 0)
+cond_zero true n m e = absurd (let y : ⊥ = omega arith in y)
+cond_zero false n m e = (refl, e)
 
 -- The first of two numbers that is not 0 is 0: so are both.
 pub neither : (x y : ℕ) → cond (eqb x 0) y x ≡ 0 → (x ≡ 0) × (y ≡ 0)
@@ -92,16 +92,16 @@ neither (suc x) y e = let h : eqb (suc x) 0 ≡ false = ne_eqb (suc x) 0 (λ z. 
 -- LISTS
 
 -- One element less, as a walk with a count of elements to skip passes it.
-pub drop-pos : {A : Type 0} (x : A) (l : List A) {k : ℕ} → 0 < k → drop (k - 1) l ≡ drop k (x ∷ l)
-drop-pos x l {k} h = let e : k ≡ suc (k - 1) = omega arith in ap (λ (j : ℕ). drop j (x ∷ l)) (sym e)
+pub drop_pos : {A : Type 0} (x : A) (l : List A) {k : ℕ} → 0 < k → drop (k - 1) l ≡ drop k (x ∷ l)
+drop_pos x l {k} h = let e : k ≡ suc (k - 1) = omega arith in ap (λ (j : ℕ). drop j (x ∷ l)) (sym e)
 
 -- Default elements after a list are read as no elements.
-pub getD-padded : {A : Type 0} (l : List A) (n j : ℕ) (d : A) → get_or (l ++ replicate n d) j d ≡ get_or l j d
-getD-padded [] zero j d = refl
-getD-padded [] (suc n) zero d = refl
-getD-padded [] (suc n) (suc j) d = getD-padded [] n j d
-getD-padded (x ∷ l) n zero d = refl
-getD-padded (x ∷ l) n (suc j) d = getD-padded l n j d
+pub get_d_padded : {A : Type 0} (l : List A) (n j : ℕ) (d : A) → get_or (l ++ replicate n d) j d ≡ get_or l j d
+get_d_padded [] zero j d = refl
+get_d_padded [] (suc n) zero d = refl
+get_d_padded [] (suc n) (suc j) d = get_d_padded [] n j d
+get_d_padded (x ∷ l) n zero d = refl
+get_d_padded (x ∷ l) n (suc j) d = get_d_padded l n j d
 
 -- BYTES
 

@@ -1,34 +1,34 @@
 -- The cases hold: computed from the definitions.
 use mathlib.Core.Path.{◌≡◌, refl}
 use mathlib.Core.Bool.{Bool, true, ◌&&◌}
-use Rattle.program.specs.Cases.{numbersOf, tells, allTell, complete, longest, turnedDown, limited, spelt, spells}
-use Rattle.program.proofs.Opened.{reader-opened}
+use Rattle.program.specs.Cases.{numbers_of, tells, all_tell, complete, longest, turned_down, limited, spelt, spells}
+use Rattle.program.proofs.Opened.{reader_opened}
 
 -- To name this on an `unfolding` line is to open the definitions and the cases, for computing with them.
 unfoldable opened : Bool
-unfolding reader-opened numbersOf tells allTell complete longest turnedDown limited spelt spells
+unfolding reader_opened numbers_of tells all_tell complete longest turned_down limited spelt spells
 opened = true
 
-counts-hold : allTell complete ≡ true
+counts_hold : all_tell complete ≡ true
 unfolding opened
-counts-hold = refl
+counts_hold = refl
 
-longest-holds : allTell longest ≡ true
+longest_holds : all_tell longest ≡ true
 unfolding opened
-longest-holds = refl
+longest_holds = refl
 
-numbers-hold : allTell turnedDown ≡ true
+numbers_hold : all_tell turned_down ≡ true
 unfolding opened
-numbers-hold = refl
+numbers_hold = refl
 
-limits-hold : allTell limited ≡ true
+limits_hold : all_tell limited ≡ true
 unfolding opened
-limits-hold = refl
+limits_hold = refl
 
-commands-spelt : spells ≡ true
+commands_spelt : spells ≡ true
 unfolding opened
-commands-spelt = refl
+commands_spelt = refl
 
 -- Every case of every list.
-pub cases-hold : allTell complete && (allTell longest && (allTell turnedDown && (allTell limited && spells))) ≡ true
-cases-hold = rw (counts-hold, longest-holds, numbers-hold, limits-hold, commands-spelt)
+pub cases_hold : all_tell complete && (all_tell longest && (all_tell turned_down && (all_tell limited && spells))) ≡ true
+cases_hold = rw (counts_hold, longest_holds, numbers_hold, limits_hold, commands_spelt)

@@ -9,14 +9,14 @@ use lib.ListN.{length, get_or, take, drop, set, replicate, length-set, length-dr
 use lib.Seq.{drop-drop, take-suc-set, drop-set-lt}
 use lib.Dec.{leb}
 use borrow.Author.Tests.{eq-eqb, ne_eqb, leb-true}
-use Rattle.program.specs.Reading.{read, andOn, readingsAfter, readings, wholes, commandsOf}
+use Rattle.program.specs.Reading.{read, and_on, readings_after, readings, wholes, commands_of}
 use Rattle.program.specs.Bodies.{after_end}
-use Rattle.program.specs.Scan.{verdict, fitsLength, fitsBodies, scan, startsFrom, layout_of}
-use Rattle.program.specs.Inner.Scanned.{opening, extentOf, refusedBy, scannedOf}
+use Rattle.program.specs.Scan.{verdict, fits_length, fits_bodies, scan, starts_from, layout_of}
+use Rattle.program.specs.Inner.Scanned.{opening, extent_of, refused_by, scanned_of}
 use Rattle.program.specs.declared.reading.Reading.{Reading}
 use Rattle.program.specs.declared.reading.Reading.TheVariants.{Whole, Unknown, Cut, Outside}
 use Rattle.program.specs.declared.scan.Extent.TheVariants.{Refused, Ended}
-use Rattle.program.proofs.Basic.{apart, and-true}
+use Rattle.program.proofs.Basic.{apart, and_true}
 use Rattle.program.proofs.ScanLaws.{Span, reached, turned}
 
 -- NUMBERS 1 AND 2
@@ -26,35 +26,35 @@ pub record Opened (t : List ℕ) : Type 0 where
   pub most : length t ≤ 2048
   pub some : 1 ≤ get_or t 0 0
   pub few : get_or t 0 0 ≤ 16
-  pub verdict-is : scan t ≡ verdict (get_or t 0 0) 0 0 (readings (drop 1 t))
+  pub verdict_is : scan t ≡ verdict (get_or t 0 0) 0 0 (readings (drop 1 t))
 
 -- One zero less.
-zeros-less : (k : ℕ) (l : List ℕ) (n m : ℕ) → drop k l ≡ replicate n 0 → n ≡ suc m → drop (k + 1) l ≡ replicate m 0
-zeros-less k l n m e h = sym (drop-drop 1 k l) ∙ ap (drop 1) (e ∙ ap (λ (j : ℕ). replicate j 0) h)
+zeros_less : (k : ℕ) (l : List ℕ) (n m : ℕ) → drop k l ≡ replicate n 0 → n ≡ suc m → drop (k + 1) l ≡ replicate m 0
+zeros_less k l n m e h = sym (drop-drop 1 k l) ∙ ap (drop 1) (e ∙ ap (λ (j : ℕ). replicate j 0) h)
 
 module _ (t : List ℕ) where
-  lengths : fitsLength t ≡ true → (2 ≤ length t) × (length t ≤ 2048)
-  unfolding fitsLength
-  lengths h = let q = and-true (leb 2 (length t)) (leb (length t) 2048) h in (leb-true _ _ q.0, leb-true _ _ q.1)
+  lengths : fits_length t ≡ true → (2 ≤ length t) × (length t ≤ 2048)
+  unfolding fits_length
+  lengths h = let q = and_true (leb 2 (length t)) (leb (length t) 2048) h in (leb-true _ _ q.0, leb-true _ _ q.1)
 
-  numbers : fitsBodies t ≡ true → (1 ≤ get_or t 0 0) × (get_or t 0 0 ≤ 16)
-  unfolding fitsBodies
-  numbers h = let q = and-true (leb 1 (get_or t 0 0)) (leb (get_or t 0 0) 16) h in (leb-true _ _ q.0, leb-true _ _ q.1)
+  numbers : fits_bodies t ≡ true → (1 ≤ get_or t 0 0) × (get_or t 0 0 ≤ 16)
+  unfolding fits_bodies
+  numbers h = let q = and_true (leb 1 (get_or t 0 0)) (leb (get_or t 0 0) 16) h in (leb-true _ _ q.0, leb-true _ _ q.1)
 
   pub opened : opening t ≡ 0 → Opened t
   unfolding opening scan
-  opened h = by (fitsLength t) (fitsBodies t) refl refl h
+  opened h = by (fits_length t) (fits_bodies t) refl refl h
     where
-      by : (a b : Bool) → fitsLength t ≡ a → fitsBodies t ≡ b → ◌≡◌ {A = ℕ} (cond a (cond b 0 2) 1) 0 → Opened t
-      by true true p q g = record { least = (lengths p).0; most = (lengths p).1; some = (numbers q).0; few = (numbers q).1; verdict-is = rw (p, q) }
+      by : (a b : Bool) → fits_length t ≡ a → fits_bodies t ≡ b → ◌≡◌ {A = ℕ} (cond a (cond b 0 2) 1) 0 → Opened t
+      by true true p q g = record { least = (lengths p).0; most = (lengths p).1; some = (numbers q).0; few = (numbers q).1; verdict_is = rw (p, q) }
       by true false p q g = absurd (let y : ⊥ = omega arith in y)
       by false b p q g = absurd (let y : ⊥ = omega arith in y)
 
   pub shut : (opening t ≡ 0 → ⊥) → scan t ≡ opening t
   unfolding opening scan
-  shut h = by (fitsLength t) (fitsBodies t) refl refl h
+  shut h = by (fits_length t) (fits_bodies t) refl refl h
     where
-      by : (a b : Bool) → fitsLength t ≡ a → fitsBodies t ≡ b → (◌≡◌ {A = ℕ} (cond a (cond b 0 2) 1) 0 → ⊥)
+      by : (a b : Bool) → fits_length t ≡ a → fits_bodies t ≡ b → (◌≡◌ {A = ℕ} (cond a (cond b 0 2) 1) 0 → ⊥)
           → cond a (cond b (verdict (get_or t 0 0) 0 0 (readings (drop 1 t))) 2) 1 ≡ cond a (cond b 0 2) 1
       by true true p q g = absurd (g refl)
       by true false p q g = refl
@@ -62,13 +62,13 @@ module _ (t : List ℕ) where
 
   -- THE ANSWER
 
-  pub scanned-refused : {number : ℕ} → scan t ≡ number → (number ≡ 0 → ⊥) → refusedBy number ≡ scannedOf t
-  unfolding scannedOf
-  scanned-refused e some = rw (e, ne_eqb _ _ some)
+  pub scanned_refused : {number : ℕ} → scan t ≡ number → (number ≡ 0 → ⊥) → refused_by number ≡ scanned_of t
+  unfolding scanned_of
+  scanned_refused e some = rw (e, ne_eqb _ _ some)
 
-  pub scanned-whole : {starts : List ℕ} → scan t ≡ 0 → starts ≡ (layout_of t).starts → record { number = 0; layout = record { bodies = get_or t 0 0; starts = starts } } ≡ scannedOf t
-  unfolding scannedOf layout_of
-  scanned-whole e s = rw (e, s)
+  pub scanned_whole : {starts : List ℕ} → scan t ≡ 0 → starts ≡ (layout_of t).starts → record { number = 0; layout = record { bodies = get_or t 0 0; starts = starts } } ≡ scanned_of t
+  unfolding scanned_of layout_of
+  scanned_whole e s = rw (e, s)
 
 -- BODY BY BODY
 
@@ -78,26 +78,26 @@ pub record Laying (t : List ℕ) (n body at : ℕ) (starts : List ℕ) : Type 0 
   pub inside : at ≤ length t
   pub rest : verdict n body 0 (readings (drop at t)) ≡ scan t
   pub long : length starts ≡ 16
-  pub done : take body starts ++ startsFrom (n - body) at (wholes (readings (drop at t))) ≡ startsFrom n 1 (commandsOf t)
+  pub done : take body starts ++ starts_from (n - body) at (wholes (readings (drop at t))) ≡ starts_from n 1 (commands_of t)
   pub zeros : drop body starts ≡ replicate (16 - body) 0
 
-pub laying-start : (t : List ℕ) → opening t ≡ 0 → Laying t (get_or t 0 0) 0 1 (replicate 16 0)
-unfolding commandsOf
-laying-start t h =
+pub laying_start : (t : List ℕ) → opening t ≡ 0 → Laying t (get_or t 0 0) 0 1 (replicate 16 0)
+unfolding commands_of
+laying_start t h =
     let o = opened t h in
     let l = o.least in
-    record { reach = omega arith; inside = omega arith; rest = sym o.verdict-is; long = refl; done = ap (λ (k : ℕ). startsFrom k 1 (wholes (readings (drop 1 t)))) (let z : get_or t 0 0 - 0 ≡ get_or t 0 0 = omega arith in z); zeros = refl }
+    record { reach = omega arith; inside = omega arith; rest = sym o.verdict_is; long = refl; done = ap (λ (k : ℕ). starts_from k 1 (wholes (readings (drop 1 t)))) (let z : get_or t 0 0 - 0 ≡ get_or t 0 0 = omega arith in z); zeros = refl }
 
 module _ {t : List ℕ} {n body at : ℕ} {starts : List ℕ} (p : Laying t n body at starts) where
   module _ (lt : body < n) (few : n ≤ 16) where
-    pub laying_refused : {number : ℕ} → Refused number ≡ extentOf n body 0 0 (readings (drop at t)) → (scan t ≡ number) × (0 < number)
+    pub laying_refused : {number : ℕ} → Refused number ≡ extent_of n body 0 0 (readings (drop at t)) → (scan t ≡ number) × (0 < number)
     laying_refused {number} h =
         let q = turned n body lt (readings (drop at t)) 0 0 number h in
         (sym p.rest ∙ q.0, q.1)
 
-    pub laying-on : {size : ℕ} → Ended size ≡ extentOf n body 0 0 (readings (drop at t)) → Laying t n (body + 1) (at + size) (set starts body at)
-    unfolding startsFrom
-    laying-on {size} h =
+    pub laying_on : {size : ℕ} → Ended size ≡ extent_of n body 0 0 (readings (drop at t)) → Laying t n (body + 1) (at + size) (set starts body at)
+    unfolding starts_from
+    laying_on {size} h =
         let r = reached n body lt (readings (drop at t)) (drop at t) 0 0 size refl h in
         let e = r.end in
         let same : r.size ≡ size = omega arith in
@@ -113,19 +113,19 @@ module _ {t : List ℕ} {n body at : ℕ} {starts : List ℕ} (p : Laying t n bo
             let left : 16 - body ≡ suc (16 - (body + 1)) = omega arith in
             let taken : take (body + 1) (set starts body at) ≡ take body starts ++ (at ∷ []) = rw add-one (take-suc-set starts body at (omega arith)) in
             let after : wholes (readings (drop (at + size) t)) ≡ after_end (wholes (readings (drop at t))) = ap (λ (x : List ℕ). wholes (readings x)) (sym d) ∙ sym span.after in
-            let more : at ∷ startsFrom (n - (body + 1)) (at + size) (wholes (readings (drop (at + size) t))) ≡ startsFrom (n - body) at (wholes (readings (drop at t))) =
-            rw (one, after) (ap (λ (k : ℕ). at ∷ startsFrom (n - (body + 1)) (at + k) (after_end (wholes (readings (drop at t))))) (sym span.long)) in
+            let more : at ∷ starts_from (n - (body + 1)) (at + size) (wholes (readings (drop (at + size) t))) ≡ starts_from (n - body) at (wholes (readings (drop at t))) =
+            rw (one, after) (ap (λ (k : ℕ). at ∷ starts_from (n - (body + 1)) (at + k) (after_end (wholes (readings (drop at t))))) (sym span.long)) in
             record {
               reach = omega arith;
               inside = omega arith;
               rest = ap (λ (x : List ℕ). verdict n (body + 1) 0 (readings x)) (sym d) ∙ sym span.next ∙ p.rest;
               long = simp length-set p.long;
               done =
-                  ap (λ (x : List ℕ). x ++ startsFrom (n - (body + 1)) (at + size) (wholes (readings (drop (at + size) t)))) taken
-                  ∙ append_assoc (take body starts) (at ∷ []) (startsFrom (n - (body + 1)) (at + size) (wholes (readings (drop (at + size) t))))
+                  ap (λ (x : List ℕ). x ++ starts_from (n - (body + 1)) (at + size) (wholes (readings (drop (at + size) t)))) taken
+                  ∙ append_assoc (take body starts) (at ∷ []) (starts_from (n - (body + 1)) (at + size) (wholes (readings (drop (at + size) t))))
                   ∙ ap (λ (x : List ℕ). take body starts ++ x) more
                   ∙ p.done;
-              zeros = drop-set-lt (body + 1) starts body at (omega arith) ∙ zeros-less body starts (16 - body) (16 - (body + 1)) p.zeros left;
+              zeros = drop-set-lt (body + 1) starts body at (omega arith) ∙ zeros_less body starts (16 - body) (16 - (body + 1)) p.zeros left;
             }
 
   module _ (last : n ≤ body) where
@@ -133,9 +133,9 @@ module _ {t : List ℕ} {n body at : ℕ} {starts : List ℕ} (p : Laying t n bo
     same = let r = p.reach in omega arith
 
     -- Bytes follow the last body, or none.
-    pub laying-more : at < length t → scan t ≡ 8
-    unfolding verdict readings readingsAfter
-    laying-more h = sym p.rest ∙ by (drop at t) (simp length-drop (omega arith))
+    pub laying_more : at < length t → scan t ≡ 8
+    unfolding verdict readings readings_after
+    laying_more h = sym p.rest ∙ by (drop at t) (simp length-drop (omega arith))
       where
         full : (rs : List Reading) → (rs ≡ [] → ⊥) → verdict n body 0 rs ≡ 8
         full [] some = absurd (some refl)
@@ -144,7 +144,7 @@ module _ {t : List ℕ} {n body at : ℕ} {starts : List ℕ} (p : Laying t n bo
         full (Cut ∷ rs) some = rw (eq-eqb _ _ same)
         full (Outside ∷ rs) some = rw (eq-eqb _ _ same)
 
-        read_some : (r : Reading) (rest : ℕ → List Reading) → andOn r rest ≡ [] → ⊥
+        read_some : (r : Reading) (rest : ℕ → List Reading) → and_on r rest ≡ [] → ⊥
         read_some (Whole c size) rest e = apart (cc)
         read_some Unknown rest e = apart (cc)
         read_some Cut rest e = apart (cc)
@@ -152,13 +152,13 @@ module _ {t : List ℕ} {n body at : ℕ} {starts : List ℕ} (p : Laying t n bo
 
         by : (s : List ℕ) → 0 < length s → verdict n body 0 (readings s) ≡ 8
         by [] g = absurd (let y : ⊥ = omega arith in y)
-        by (b ∷ s) g = full (readings (b ∷ s)) (read_some (read (b ∷ s)) (readingsAfter s))
+        by (b ∷ s) g = full (readings (b ∷ s)) (read_some (read (b ∷ s)) (readings_after s))
 
-    pub laying-all : n ≡ get_or t 0 0 → length t ≤ at → (scan t ≡ 0) × (starts ≡ (layout_of t).starts)
-    unfolding verdict readings readingsAfter startsFrom layout_of
-    laying-all is h =
+    pub laying_all : n ≡ get_or t 0 0 → length t ≤ at → (scan t ≡ 0) × (starts ≡ (layout_of t).starts)
+    unfolding verdict readings readings_after starts_from layout_of
+    laying_all is h =
         let none : n - body ≡ 0 = omega (arith, same) in
-        let e : take body starts ≡ startsFrom n 1 (commandsOf t) = sym (append-nil (take body starts)) ∙ (rw none at p.done) in
+        let e : take body starts ≡ starts_from n 1 (commands_of t) = sym (append-nil (take body starts)) ∙ (rw none at p.done) in
         let f : drop body starts ≡ replicate (16 - n) 0 = p.zeros ∙ ap (λ (k : ℕ). replicate (16 - k) 0) same in (
           sym p.rest ∙ rw (drop_of_length-le t h, eq-eqb _ _ same),
           sym (take-append-drop body starts) ∙ ap₂ (λ (x y : List ℕ). x ++ y) e f ∙ rw is,

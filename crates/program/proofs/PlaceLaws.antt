@@ -7,48 +7,48 @@ use native.Mathlib.Omega.{arith}
 use lib.ListN.{length, drop, set, replicate, length-append, length-replicate, replicate-append-replicate, drop_of_length-le}
 use lib.Seq.{drop-drop, set_at}
 use borrow.Author.Tests.{ne_eqb}
-use Rattle.program.specs.Command.{width, isEnd}
-use Rattle.program.specs.Reading.{read, readings, readingsAfter, wholes, commandsOf}
-use Rattle.program.specs.Scan.{placing, leftAfter, body_after, scan}
-use Rattle.program.specs.Places.{marks, tableMarks, places_of}
+use Rattle.program.specs.Command.{width, is_end}
+use Rattle.program.specs.Reading.{read, readings, readings_after, wholes, commands_of}
+use Rattle.program.specs.Scan.{placing, left_after, body_after, scan}
+use Rattle.program.specs.Places.{marks, table_marks, places_of}
 use Rattle.program.specs.Inner.Scanned.{mark_of, Marking}
 use Rattle.program.specs.declared.command.Command.{Command}
 use Rattle.program.specs.declared.reading.Reading.TheVariants.{Whole}
 use Rattle.program.proofs.ShapeReading.{known}
 use Rattle.program.proofs.ShapeListed.{fit, none_left}
-use Rattle.program.proofs.ReadLaws.{readings-whole}
+use Rattle.program.proofs.ReadLaws.{readings_whole}
 
 -- Where the scan turns a table down there is no place.
-pub places-none : (t : List ℕ) → (scan t ≡ 0 → ⊥) → replicate 2048 0 ≡ places_of t
+pub places_none : (t : List ℕ) → (scan t ≡ 0 → ⊥) → replicate 2048 0 ≡ places_of t
 unfolding places_of
-places-none t bad = rw (ne_eqb _ _ bad)
+places_none t bad = rw (ne_eqb _ _ bad)
 
 -- Byte 0 has no mark.
-pub marking-start : (t : List ℕ) → Marking (0 ∷ marks 0 0 (commandsOf t)) (drop 1 t) 0 1 0 0 (replicate 2048 0)
-unfolding commandsOf
-marking-start t = record { front = 0 ∷ []; long = refl; split = refl; done = refl }
+pub marking_start : (t : List ℕ) → Marking (0 ∷ marks 0 0 (commands_of t)) (drop 1 t) 0 1 0 0 (replicate 2048 0)
+unfolding commands_of
+marking_start t = record { front = 0 ∷ []; long = refl; split = refl; done = refl }
 
 -- Zeros in two parts.
-zeros-split : (a b n : ℕ) → a + b ≡ n → ◌≡◌ {A = List ℕ} (replicate n 0) (replicate a 0 ++ replicate b 0)
-zeros-split a b n e = ap (λ (j : ℕ). replicate j 0) (sym e) ∙ sym (replicate-append-replicate a b 0)
+zeros_split : (a b n : ℕ) → a + b ≡ n → ◌≡◌ {A = List ℕ} (replicate n 0) (replicate a 0 ++ replicate b 0)
+zeros_split a b n e = ap (λ (j : ℕ). replicate j 0) (sym e) ∙ sym (replicate-append-replicate a b 0)
 
 -- A command more.
-pub marking-on : {all s : List ℕ} {i first at left : ℕ} {m : List ℕ} → Marking all s i first at left m → {c : Command} {size : ℕ} → Whole c size ≡ read (drop at s)
-    → first + (at + size) ≤ 2048 → Marking all s (body_after i c) first (at + size) (leftAfter left c) (set m (first + at) (mark_of i left))
+pub marking_on : {all s : List ℕ} {i first at left : ℕ} {m : List ℕ} → Marking all s i first at left m → {c : Command} {size : ℕ} → Whole c size ≡ read (drop at s)
+    → first + (at + size) ≤ 2048 → Marking all s (body_after i c) first (at + size) (left_after left c) (set m (first + at) (mark_of i left))
 unfolding marks wholes
-marking-on {all} {s} {i} {first} {at} {left} {m} p {c} {size} whole fits =
+marking_on {all} {s} {i} {first} {at} {left} {m} p {c} {size} whole fits =
     let k = known (drop at s) (sym whole) in
     let some = k.some in
     let v = mark_of i left in
     let d : drop size (drop at s) ≡ drop (at + size) s = drop-drop size at s in
-    let next = readings-whole (drop at s) c size whole ∙ ap (λ (x : List ℕ). Whole c size ∷ readings x) d in
+    let next = readings_whole (drop at s) c size whole ∙ ap (λ (x : List ℕ). Whole c size ∷ readings x) d in
     let w : width c ≡ size = sym k.wide in
     let l = p.long in
     let one : 2048 - (first + at) ≡ suc (2047 - (first + at)) = omega arith in
     let two : size - 1 + (2048 - (first + (at + size))) ≡ 2047 - (first + at) = omega arith in
     let zeros : ◌≡◌ {A = List ℕ} (replicate (2047 - (first + at)) 0) (replicate (size - 1) 0 ++ replicate (2048 - (first + (at + size))) 0) =
-    zeros-split (size - 1) (2048 - (first + (at + size))) (2047 - (first + at)) two in
-    let back : marks i left (wholes (readings (drop at s))) ≡ v ∷ (replicate (size - 1) 0 ++ marks (body_after i c) (leftAfter left c) (wholes (readings (drop (at + size) s)))) =
+    zeros_split (size - 1) (2048 - (first + (at + size))) (2047 - (first + at)) two in
+    let back : marks i left (wholes (readings (drop at s))) ≡ v ∷ (replicate (size - 1) 0 ++ marks (body_after i c) (left_after left c) (wholes (readings (drop (at + size) s)))) =
     rw (next, w) in
     record {
       front = p.front ++ (v ∷ replicate (size - 1) 0);
@@ -59,24 +59,24 @@ marking-on {all} {s} {i} {first} {at} {left} {m} p {c} {size} whole fits =
           ∙ ap (λ (x : List ℕ). p.front ++ (v ∷ x)) zeros
           ∙ sym (append_assoc p.front (v ∷ replicate (size - 1) 0) (replicate (2048 - (first + (at + size))) 0));
       done =
-          append_assoc p.front (v ∷ replicate (size - 1) 0) (marks (body_after i c) (leftAfter left c) (wholes (readings (drop (at + size) s))))
+          append_assoc p.front (v ∷ replicate (size - 1) 0) (marks (body_after i c) (left_after left c) (wholes (readings (drop (at + size) s))))
           ∙ ap (λ (x : List ℕ). p.front ++ x) (sym back)
           ∙ p.done;
     }
 
 -- After END the next body begins; any other command leaves the body open.
-module _ {all s : List ℕ} (n i : ℕ) {first at : ℕ} (left : ℕ) {m : List ℕ} (c : Command) (p : Marking all s (body_after i c) first at (leftAfter left c) m) where
-  pub marking-end : placing n i left c ≡ 0 → isEnd c ≡ true → Marking all s (i + 1) first at 0 m
+module _ {all s : List ℕ} (n i : ℕ) {first at : ℕ} (left : ℕ) {m : List ℕ} (c : Command) (p : Marking all s (body_after i c) first at (left_after left c) m) where
+  pub marking_end : placing n i left c ≡ 0 → is_end c ≡ true → Marking all s (i + 1) first at 0 m
   unfolding body_after
-  marking-end ok stop = rw (stop, none_left n i left c (fit n i left c ok) stop) at p
+  marking_end ok stop = rw (stop, none_left n i left c (fit n i left c ok) stop) at p
 
-  pub marking-open : isEnd c ≡ false → Marking all s i first at (leftAfter left c) m
+  pub marking_open : is_end c ≡ false → Marking all s i first at (left_after left c) m
   unfolding body_after
-  marking-open go = rw go at p
+  marking_open go = rw go at p
 
 -- The next body begins where a body ends.
-pub marking-next : {all : List ℕ} (t : List ℕ) (i at e : ℕ) {m : List ℕ} → Marking all (drop at t) i at e 0 m → Marking all (drop (at + e) t) i (at + e) 0 0 m
-marking-next t i at e p =
+pub marking_next : {all : List ℕ} (t : List ℕ) (i at e : ℕ) {m : List ℕ} → Marking all (drop at t) i at e 0 m → Marking all (drop (at + e) t) i (at + e) 0 0 m
+marking_next t i at e p =
     let z : at + e ≡ at + e + 0 = omega arith in
     record {
       front = p.front;
@@ -86,11 +86,11 @@ marking-next t i at e p =
     }
 
 -- The bytes are at their end.
-pub marking-all : (t : List ℕ) {i at : ℕ} {m : List ℕ} → Marking (0 ∷ marks 0 0 (commandsOf t)) (drop at t) i at 0 0 m → scan t ≡ 0 → length t ≤ at → m ≡ places_of t
-unfolding readings readingsAfter marks wholes places_of tableMarks
-marking-all t {i} {at} {m} p z end =
+pub marking_all : (t : List ℕ) {i at : ℕ} {m : List ℕ} → Marking (0 ∷ marks 0 0 (commands_of t)) (drop at t) i at 0 0 m → scan t ≡ 0 → length t ≤ at → m ≡ places_of t
+unfolding readings readings_after marks wholes places_of table_marks
+marking_all t {i} {at} {m} p z end =
     let none : drop at t ≡ [] = drop_of_length-le t end in
-    let f : p.front ≡ 0 ∷ marks 0 0 (commandsOf t) = sym (append-nil p.front) ∙ (rw none at p.done) in
-    let l : at + 0 ≡ suc (length (marks 0 0 (commandsOf t))) = sym p.long ∙ ap length f in
-    let r : 2048 - (at + 0) ≡ 2047 - length (marks 0 0 (commandsOf t)) = omega arith in
+    let f : p.front ≡ 0 ∷ marks 0 0 (commands_of t) = sym (append-nil p.front) ∙ (rw none at p.done) in
+    let l : at + 0 ≡ suc (length (marks 0 0 (commands_of t))) = sym p.long ∙ ap length f in
+    let r : 2048 - (at + 0) ≡ 2047 - length (marks 0 0 (commands_of t)) = omega arith in
     rw z (p.split ∙ ap₂ (λ (x : List ℕ) (j : ℕ). x ++ replicate j 0) f r)

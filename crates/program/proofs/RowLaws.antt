@@ -14,8 +14,8 @@ use Rattle.program.specs.Inner.Coding.{commands, weight}
 use Rattle.program.specs.declared.command.Command.{Command}
 use Rattle.program.specs.declared.command.Command.TheVariants.{End, Next, Clock, Resume, Drop, Async, Finish, Repeat, Acc, Offer, Read, Reset, Put, Fetch, Store, Add, Atom, Choose}
 use Rattle.program.specs.contracts.command.Command.{the_type}
-use Rattle.program.proofs.Basic.{and-true, true-false}
-use Rattle.program.proofs.ShapeReading.{each-op}
+use Rattle.program.proofs.Basic.{and_true, true_false}
+use Rattle.program.proofs.ShapeReading.{each_op}
 
 -- THE LAST ARM OF A MATCH
 
@@ -24,11 +24,11 @@ abbrev pub Missed : ℕ → List ℕ → Type 0
 Missed x [] = Unit {0}
 Missed x (k ∷ ks) = Missed x ks × (x ≡ k → ⊥)
 
-abbrev pub isIn : ℕ → List ℕ → Bool
-isIn x [] = false
-isIn x (k ∷ ks) = eqb x k || isIn x ks
+abbrev pub is_in : ℕ → List ℕ → Bool
+is_in x [] = false
+is_in x (k ∷ ks) = eqb x k || is_in x ks
 
-pub missed : (x : ℕ) (ks : List ℕ) → Missed x ks → isIn x ks ≡ false
+pub missed : (x : ℕ) (ks : List ℕ) → Missed x ks → is_in x ks ≡ false
 missed x [] h = refl
 missed x (k ∷ ks) h = rw (ne_eqb x k h.1) (missed x ks h.0)
 
@@ -38,7 +38,7 @@ every = 17 ∷ 16 ∷ 15 ∷ 14 ∷ 13 ∷ 12 ∷ 11 ∷ 10 ∷ 9 ∷ 8 ∷ 7 �
 
 pub none_left : (op : ℕ) → op < commands → Missed op every → ⊥
 none_left op few h =
-    true-false (isIn op every) (each-op (λ (x : ℕ). isIn x every ≡ true) refl refl refl refl refl refl refl refl refl refl refl refl refl refl refl refl refl refl op few) (missed op every h)
+    true_false (is_in op every) (each_op (λ (x : ℕ). is_in x every ≡ true) refl refl refl refl refl refl refl refl refl refl refl refl refl refl refl refl refl refl op few) (missed op every h)
 
 -- The commands but ASYNC, FINISH, REPEAT and CHOOSE, and those but ATOM.
 abbrev pub nameless : List ℕ
@@ -48,26 +48,26 @@ abbrev pub holdless : List ℕ
 holdless = 0 ∷ 1 ∷ 2 ∷ 3 ∷ 4 ∷ 5 ∷ 6 ∷ 7 ∷ 8 ∷ 9 ∷ 10 ∷ 11 ∷ 12 ∷ 13 ∷ 14 ∷ 15 ∷ 17 ∷ []
 
 -- They name no body,
-pub names-none : (c : Command) → OneOf nameless (tag_of the_type c) → (false ≡ names c) × (0 ≡ named c) × (0 ≡ times c)
+pub names_none : (c : Command) → OneOf nameless (tag_of the_type c) → (false ≡ names c) × (0 ≡ named c) × (0 ≡ times c)
 unfolding rows row_at row_of names named times
-names-none End h = (refl, refl, refl)
-names-none Next h = (refl, refl, refl)
-names-none (Clock c) h = (refl, refl, refl)
-names-none (Resume c) h = (refl, refl, refl)
-names-none (Drop c) h = (refl, refl, refl)
-names-none (Async b m) h = absurd (miss nameless 5 tt h)
-names-none (Finish b) h = absurd (miss nameless 6 tt h)
-names-none (Repeat n b) h = absurd (miss nameless 7 tt h)
-names-none (Acc a o) h = (refl, refl, refl)
-names-none (Offer a) h = (refl, refl, refl)
-names-none (Read a) h = (refl, refl, refl)
-names-none (Reset a) h = (refl, refl, refl)
-names-none (Put v) h = (refl, refl, refl)
-names-none (Fetch d) h = (refl, refl, refl)
-names-none (Store d) h = (refl, refl, refl)
-names-none (Add d) h = (refl, refl, refl)
-names-none (Atom k) h = (refl, refl, refl)
-names-none (Choose b) h = absurd (miss nameless 17 tt h)
+names_none End h = (refl, refl, refl)
+names_none Next h = (refl, refl, refl)
+names_none (Clock c) h = (refl, refl, refl)
+names_none (Resume c) h = (refl, refl, refl)
+names_none (Drop c) h = (refl, refl, refl)
+names_none (Async b m) h = absurd (miss nameless 5 tt h)
+names_none (Finish b) h = absurd (miss nameless 6 tt h)
+names_none (Repeat n b) h = absurd (miss nameless 7 tt h)
+names_none (Acc a o) h = (refl, refl, refl)
+names_none (Offer a) h = (refl, refl, refl)
+names_none (Read a) h = (refl, refl, refl)
+names_none (Reset a) h = (refl, refl, refl)
+names_none (Put v) h = (refl, refl, refl)
+names_none (Fetch d) h = (refl, refl, refl)
+names_none (Store d) h = (refl, refl, refl)
+names_none (Add d) h = (refl, refl, refl)
+names_none (Atom k) h = (refl, refl, refl)
+names_none (Choose b) h = absurd (miss nameless 17 tt h)
 
 -- and hold no commands.
 pub held_none : (c : Command) → OneOf holdless (tag_of the_type c) → 0 ≡ held c
@@ -101,8 +101,8 @@ everywhere test (x ∷ l) = test x && everywhere test l
 each : (test : Row → Bool) (l : List Row) (other : Row) → everywhere test l ≡ true → test other ≡ true → (i : ℕ) → test (get_or l i other) ≡ true
 unfolding everywhere
 each test [] other all last i = last
-each test (x ∷ l) other all last zero = (and-true (test x) (everywhere test l) all).0
-each test (x ∷ l) other all last (suc i) = each test l other (and-true (test x) (everywhere test l) all).1 last i
+each test (x ∷ l) other all last zero = (and_true (test x) (everywhere test l) all).0
+each test (x ∷ l) other all last (suc i) = each test l other (and_true (test x) (everywhere test l) all).1 last i
 
 -- A command byte and its operands are at most five bytes, and the byte of no command is one.
 pub width_few : (op : ℕ) → width_at op ≤ 5
@@ -111,9 +111,9 @@ width_few op =
     let h : length (row_at op).operands ≤ 4 = leb-true _ _ (each (λ (r : Row). leb (length r.operands) 4) rows (record { operands = []; work = 0; activities = 0; clocks = 0; accumulators = 0 }) refl refl op) in
     omega arith
 
-pub width-alone : (op : ℕ) → commands ≤ op → width_at op ≡ 1
+pub width_alone : (op : ℕ) → commands ≤ op → width_at op ≡ 1
 unfolding width_at row_at rows
-width-alone op h = rw (get_or-eq_default rows (record { operands = []; work = 0; activities = 0; clocks = 0; accumulators = 0 }) h)
+width_alone op h = rw (get_or-eq_default rows (record { operands = []; work = 0; activities = 0; clocks = 0; accumulators = 0 }) h)
 
 -- WEIGHTS
 
@@ -129,4 +129,4 @@ unfolding weight row_of row_at rows
 weight_is k c {op} e few =
     ap (λ (x : ℕ). get_or (counts (row_at x)) k 0) (sym e)
     ∙ ap (λ (l : List ℕ). get_or l k 0)
-    (each-op (λ (x : ℕ). counts (row_at x) ≡ weighed x) refl refl refl refl refl refl refl refl refl refl refl refl refl refl refl refl refl refl op few)
+    (each_op (λ (x : ℕ). counts (row_at x) ≡ weighed x) refl refl refl refl refl refl refl refl refl refl refl refl refl refl refl refl refl refl op few)

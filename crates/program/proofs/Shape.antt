@@ -4,21 +4,21 @@ use mathlib.Core.List.{List, [], ◌∷◌}
 use mathlib.Core.Bool.{true, false}
 use mathlib.Core.Path.{◌≡◌}
 use lib.ListN.{length, get_or}
-use Rattle.program.specs.Command.{row_of, operandsOf, width, names, named, held, isEnd, usesCell}
-use Rattle.program.specs.Reading.{allInside}
+use Rattle.program.specs.Command.{row_of, operands_of, width, names, named, held, is_end, uses_cell}
+use Rattle.program.specs.Reading.{all_inside}
 use Rattle.program.specs.Bodies.{Located, Body, Program, head_of}
 use Rattle.program.specs.Scan.{bytes}
-use Rattle.program.specs.Count.{workOf, activitiesOf, clocksOf, accumulatorsOf}
+use Rattle.program.specs.Count.{work_of, activities_of, clocks_of, accumulators_of}
 use Rattle.program.specs.declared.command.Command.{Command}
 
 -- Each operand of a command is inside its range.
 unfoldable pub Ranged : Command → Type 0
-Ranged c = allInside (row_of c).operands (operandsOf c) ≡ true
+Ranged c = all_inside (row_of c).operands (operands_of c) ≡ true
 
 -- The commands that belong to an ATOM are on cells.
 unfoldable pub OnCells : List Command → Type 0
 OnCells [] = Unit {0}
-OnCells (c ∷ cs) = (usesCell c ≡ true) × Ranged c × OnCells cs
+OnCells (c ∷ cs) = (uses_cell c ≡ true) × Ranged c × OnCells cs
 
 -- A located command of body b of n.
 pub record Sound (n b : ℕ) (x : Located) : Type 0 where
@@ -35,8 +35,8 @@ stride x = width x.command + bytes x.inner
 -- A body of n, number b: its last command and no other is END, and each stands where the one before it ends.
 unfoldable pub Shaped : ℕ → ℕ → Body → Type 0
 Shaped n b [] = ⊥
-Shaped n b (x ∷ []) = Sound n b x × (isEnd x.command ≡ true)
-Shaped n b (x ∷ (y ∷ r)) = Sound n b x × (isEnd x.command ≡ false) × (y.offset ≡ x.offset + stride x) × Shaped n b (y ∷ r)
+Shaped n b (x ∷ []) = Sound n b x × (is_end x.command ≡ true)
+Shaped n b (x ∷ (y ∷ r)) = Sound n b x × (is_end x.command ≡ false) × (y.offset ≡ x.offset + stride x) × Shaped n b (y ∷ r)
 
 pub record Accepted (p : Program) : Type 0 where
   pub some : 0 < length p
@@ -46,7 +46,7 @@ pub record Accepted (p : Program) : Type 0 where
 
 -- What a program with none of the numbers 9 to 12 comes to.
 pub record Counted (limit : ℕ) (p : Program) : Type 0 where
-  pub activities : activitiesOf p ≤ 64
-  pub clocks : clocksOf p ≤ 16
-  pub accumulators : accumulatorsOf p ≤ 16
-  pub work : workOf p ≤ limit
+  pub activities : activities_of p ≤ 64
+  pub clocks : clocks_of p ≤ 16
+  pub accumulators : accumulators_of p ≤ 16
+  pub work : work_of p ≤ limit

@@ -4,17 +4,17 @@ use native.Mathlib.Omega.{arith}
 use mathlib.Core.List.{List, [], ◌∷◌, ◌++◌}
 use mathlib.Core.Path.{◌≡◌, refl, ap, ◌∙◌}
 use lib.ListN.{length, get_or, take}
-use Rattle.program.specs.Command.{rows, row_at, operandsOf, padded, commandOf}
+use Rattle.program.specs.Command.{rows, row_at, operands_of, padded, command_of}
 use Rattle.program.specs.Inner.Coding.{commands}
 use Rattle.program.proofs.Basic.{Bytes}
-use Rattle.program.proofs.ShapeReading.{firsts, each-op}
+use Rattle.program.proofs.ShapeReading.{firsts, each_op}
 
 -- A command looks only at the operands that its row has.
 pub looks : (x y z w : ℕ) (rest : List ℕ) (op : ℕ) → op < commands
-    → commandOf op (take (length (row_at op).operands) (x ∷ y ∷ z ∷ w ∷ []) ++ rest) ≡ commandOf op (x ∷ y ∷ z ∷ w ∷ [])
-unfolding rows row_at commandOf
+    → command_of op (take (length (row_at op).operands) (x ∷ y ∷ z ∷ w ∷ []) ++ rest) ≡ command_of op (x ∷ y ∷ z ∷ w ∷ [])
+unfolding rows row_at command_of
 looks x y z w rest op =
-    each-op (λ (k : ℕ). commandOf k (take (length (row_at k).operands) (x ∷ y ∷ z ∷ w ∷ []) ++ rest) ≡ commandOf k (x ∷ y ∷ z ∷ w ∷ []))
+    each_op (λ (k : ℕ). command_of k (take (length (row_at k).operands) (x ∷ y ∷ z ∷ w ∷ []) ++ rest) ≡ command_of k (x ∷ y ∷ z ∷ w ∷ []))
     refl refl refl refl refl refl refl refl refl refl refl refl refl refl refl refl refl refl op
 
 -- The four bytes of a value come back.
@@ -44,11 +44,11 @@ word_bytes x y z w hx hy hz hw =
 
 -- A command has the operands that it was read from.
 abbrev Back : List ℕ → ℕ → Type 0
-Back s op = take (length (row_at op).operands) (padded (operandsOf (commandOf op s))) ≡ firsts (row_at op).operands s 0
+Back s op = take (length (row_at op).operands) (padded (operands_of (command_of op s))) ≡ firsts (row_at op).operands s 0
 
 pub back : (s : List ℕ) → Bytes s → (op : ℕ) → op < commands → Back s op
-unfolding rows row_at commandOf
+unfolding rows row_at command_of
 back s h op =
-    each-op (Back s) refl refl refl refl refl refl refl refl refl refl refl refl
+    each_op (Back s) refl refl refl refl refl refl refl refl refl refl refl refl
     (word_bytes (get_or s 0 0) (get_or s 1 0) (get_or s 2 0) (get_or s 3 0) (h 0) (h 1) (h 2) (h 3))
     refl refl refl refl refl op

@@ -8,12 +8,12 @@ use lib.ListN.{length, get_or, take, drop}
 use lib.Seq.{drop-cons, get_or-drop}
 use lib.Dec.{leb, ltb}
 use borrow.Author.Tests.{leb-false, le-ltb, ltb-false}
-use Rattle.program.specs.Command.{Operand, inside, rows, row_at, width_at, opcode, operandsOf, commandOf, row_of, width}
+use Rattle.program.specs.Command.{Operand, inside, rows, row_at, width_at, opcode, operands_of, command_of, row_of, width}
 use Rattle.program.specs.Inner.Coding.{commands}
-use Rattle.program.specs.Reading.{allInside, read}
+use Rattle.program.specs.Reading.{all_inside, read}
 use Rattle.program.specs.declared.command.Command.{Command}
 use Rattle.program.specs.declared.reading.Reading.TheVariants.{Whole, Unknown, Cut, Outside}
-use Rattle.program.proofs.Basic.{apart, and-true, and_intro, each_from}
+use Rattle.program.proofs.Basic.{apart, and_true, and_intro, each_from}
 use Rattle.program.proofs.Shape.{Ranged}
 
 -- What is known of s where it starts with the command c of so many bytes.
@@ -29,21 +29,21 @@ firsts [] s i = []
 firsts (kind ∷ kinds) s i = get_or s i 0 ∷ firsts kinds s (suc i)
 
 -- They are inside their ranges where the bytes are.
-firsts-inside : (kinds : List Operand) (s : List ℕ) (i : ℕ) → i + length kinds ≤ length s → allInside kinds (drop i s) ≡ true → allInside kinds (firsts kinds s i) ≡ true
-firsts-inside [] s i h e = refl
-firsts-inside (kind ∷ kinds) s i h e =
-    let f = and-true (inside kind (get_or s i 0)) _ (rw (drop-cons s i 0 (omega arith)) at e) in
-    and_intro _ _ f.0 (firsts-inside kinds s (suc i) (omega arith) f.1)
+firsts_inside : (kinds : List Operand) (s : List ℕ) (i : ℕ) → i + length kinds ≤ length s → all_inside kinds (drop i s) ≡ true → all_inside kinds (firsts kinds s i) ≡ true
+firsts_inside [] s i h e = refl
+firsts_inside (kind ∷ kinds) s i h e =
+    let f = and_true (inside kind (get_or s i 0)) _ (rw (drop-cons s i 0 (omega arith)) at e) in
+    and_intro _ _ f.0 (firsts_inside kinds s (suc i) (omega arith) f.1)
 
 -- They are the first bytes.
-pub firsts-take : (kinds : List Operand) (s : List ℕ) (i : ℕ) → i + length kinds ≤ length s → firsts kinds s i ≡ take (length kinds) (drop i s)
-firsts-take [] s i h = refl
-firsts-take (kind ∷ kinds) s i h = rw (drop-cons s i 0 (omega arith), firsts-take kinds s (suc i) (omega arith))
+pub firsts_take : (kinds : List Operand) (s : List ℕ) (i : ℕ) → i + length kinds ≤ length s → firsts kinds s i ≡ take (length kinds) (drop i s)
+firsts_take [] s i h = refl
+firsts_take (kind ∷ kinds) s i h = rw (drop-cons s i 0 (omega arith), firsts_take kinds s (suc i) (omega arith))
 
 -- A fact of each command byte.
-pub each-op : (P : ℕ → Type 0) → P 0 → P 1 → P 2 → P 3 → P 4 → P 5 → P 6 → P 7 → P 8 → P 9 → P 10 → P 11 → P 12 → P 13 → P 14 → P 15 → P 16 → P 17
+pub each_op : (P : ℕ → Type 0) → P 0 → P 1 → P 2 → P 3 → P 4 → P 5 → P 6 → P 7 → P 8 → P 9 → P 10 → P 11 → P 12 → P 13 → P 14 → P 15 → P 16 → P 17
     → (op : ℕ) → op < commands → P op
-each-op P p0 p1 p2 p3 p4 p5 p6 p7 p8 p9 p10 p11 p12 p13 p14 p15 p16 p17 op =
+each_op P p0 p1 p2 p3 p4 p5 p6 p7 p8 p9 p10 p11 p12 p13 p14 p15 p16 p17 op =
     let Q : ℕ → Type 0 = λ x. x < commands → P x in
     each_from Q 0 (λ h. p0) (each_from Q 1 (λ h. p1) (each_from Q 2 (λ h. p2) (each_from Q 3 (λ h. p3) (each_from Q 4 (λ h. p4) (each_from Q 5 (λ h. p5)
     (each_from Q 6 (λ h. p6) (each_from Q 7 (λ h. p7) (each_from Q 8 (λ h. p8) (each_from Q 9 (λ h. p9) (each_from Q 10 (λ h. p10) (each_from Q 11 (λ h. p11)
@@ -54,13 +54,13 @@ each-op P p0 p1 p2 p3 p4 p5 p6 p7 p8 p9 p10 p11 p12 p13 p14 p15 p16 p17 op =
 -- The command of a byte has this byte, and the operands that were read.
 Kept : List ℕ → ℕ → Type 0
 Kept s op =
-    op < commands → allInside (row_at op).operands (firsts (row_at op).operands s 0) ≡ true
-    → (opcode (commandOf op s) ≡ op) × (allInside (row_at op).operands (operandsOf (commandOf op s)) ≡ true)
+    op < commands → all_inside (row_at op).operands (firsts (row_at op).operands s 0) ≡ true
+    → (opcode (command_of op s) ≡ op) × (all_inside (row_at op).operands (operands_of (command_of op s)) ≡ true)
 
 kept : (s : List ℕ) (op : ℕ) → Kept s op
-unfolding Kept rows row_at commandOf
+unfolding Kept rows row_at command_of
 kept s op lt =
-    each-op (λ (x : ℕ). allInside (row_at x).operands (firsts (row_at x).operands s 0) ≡ true → (opcode (commandOf x s) ≡ x) × (allInside (row_at x).operands (operandsOf (commandOf x s)) ≡ true))
+    each_op (λ (x : ℕ). all_inside (row_at x).operands (firsts (row_at x).operands s 0) ≡ true → (opcode (command_of x s) ≡ x) × (all_inside (row_at x).operands (operands_of (command_of x s)) ≡ true))
     (λ e. (refl, e)) (λ e. (refl, e)) (λ e. (refl, e)) (λ e. (refl, e)) (λ e. (refl, e)) (λ e. (refl, e)) (λ e. (refl, e)) (λ e. (refl, e)) (λ e. (refl, e))
     (λ e. (refl, e)) (λ e. (refl, e)) (λ e. (refl, e)) (λ e. (refl, e)) (λ e. (refl, e)) (λ e. (refl, e)) (λ e. (refl, e)) (λ e. (refl, e)) (λ e. (refl, e))
     op lt
@@ -80,21 +80,21 @@ tests false false false c₀ c w₀ size h = apart (cc)
 tests false false true c₀ c w₀ size h = record { known = refl; whole = refl; good = refl; same = cc; long = cc }
 
 -- A command byte with all its operands is not cut.
-uncut-by : (a e : Bool) (c : Command) (w : ℕ) → cond a Unknown (cond e (Whole c w) Outside) ≡ Cut → ⊥
-uncut-by true e c w h = apart (cc)
-uncut-by false true c w h = apart (cc)
-uncut-by false false c w h = apart (cc)
+uncut_by : (a e : Bool) (c : Command) (w : ℕ) → cond a Unknown (cond e (Whole c w) Outside) ≡ Cut → ⊥
+uncut_by true e c w h = apart (cc)
+uncut_by false true c w h = apart (cc)
+uncut_by false false c w h = apart (cc)
 
-pub not-cut : (op : ℕ) (s : List ℕ) → length (row_at op).operands ≤ length s → read (op ∷ s) ≡ Cut → ⊥
+pub not_cut : (op : ℕ) (s : List ℕ) → length (row_at op).operands ≤ length s → read (op ∷ s) ≡ Cut → ⊥
 unfolding read
-not-cut op s h e =
+not_cut op s h e =
     let kinds = (row_at op).operands in
-    uncut-by (leb (length rows) op) (allInside kinds s) (commandOf op s) (length kinds + 1) (rw (le-ltb (length s) (length kinds) h) at e)
+    uncut_by (leb (length rows) op) (all_inside kinds s) (command_of op s) (length kinds + 1) (rw (le-ltb (length s) (length kinds) h) at e)
 
 -- A whole command that was read is that of its byte and of what follows, and as wide as its row says.
 pub record ReadAs (op : ℕ) (s : List ℕ) (c : Command) (size : ℕ) : Type 0 where
   pub listed : op < commands
-  pub same : commandOf op s ≡ c
+  pub same : command_of op s ≡ c
   pub wide : width_at op ≡ size
   pub byte : opcode c ≡ op
 
@@ -102,9 +102,9 @@ pub read_as : (op : ℕ) (s : List ℕ) {c : Command} {size : ℕ} → read (op 
 unfolding Kept rows read width_at
 read_as op s {c} {size} h =
     let kinds = (row_at op).operands in
-    let f = tests (leb (length rows) op) (ltb (length s) (length kinds)) (allInside kinds s) (commandOf op s) c (length kinds + 1) size h in
+    let f = tests (leb (length rows) op) (ltb (length s) (length kinds)) (all_inside kinds s) (command_of op s) c (length kinds + 1) size h in
     let fits = ltb-false (length s) (length kinds) f.whole in
-    let k = kept s op (leb-false commands op f.known) (firsts-inside kinds s 0 (omega arith) f.good) in
+    let k = kept s op (leb-false commands op f.known) (firsts_inside kinds s 0 (omega arith) f.good) in
     record { listed = leb-false commands op f.known; same = f.same; wide = f.long; byte = ap opcode (sym f.same) ∙ k.0 }
 
 -- A whole command that was read: its bytes are there and its operands are inside their ranges.
@@ -113,9 +113,9 @@ unfolding Kept rows read Ranged row_of width
 known [] h = apart (cc)
 known (op ∷ s) {c} {size} h =
     let kinds = (row_at op).operands in
-    let f = tests (leb (length rows) op) (ltb (length s) (length kinds)) (allInside kinds s) (commandOf op s) c (length kinds + 1) size h in
+    let f = tests (leb (length rows) op) (ltb (length s) (length kinds)) (all_inside kinds s) (command_of op s) c (length kinds + 1) size h in
     let fits = ltb-false (length s) (length kinds) f.whole in
-    let k = kept s op (leb-false commands op f.known) (firsts-inside kinds s 0 (omega arith) f.good) in
+    let k = kept s op (leb-false commands op f.known) (firsts_inside kinds s 0 (omega arith) f.good) in
     let e : opcode c ≡ op = ap opcode (sym f.same) ∙ k.0 in
     record {
       some = let l = f.long in omega arith;

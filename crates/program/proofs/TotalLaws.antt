@@ -14,9 +14,9 @@ use Rattle.program.specs.declared.command.Command.{Command}
 pub product : (k w : ℕ) → k < 256 → w ≤ 65536 → k * w ≤ 16711680
 product k w p q = let h : k ≤ 255 = omega arith in mul-le-mul h q
 
-pub cap-times : (a k x m : ℕ) → min (a + k * min x m) m ≡ min (a + k * x) m
-cap-times a zero x m = simp zero-mul
-cap-times a (suc k) x m = by (dec_le x m)
+pub cap_times : (a k x m : ℕ) → min (a + k * min x m) m ≡ min (a + k * x) m
+cap_times a zero x m = simp zero-mul
+cap_times a (suc k) x m = by (dec_le x m)
   where
     by : Dec (x ≤ m) → min (a + suc k * min x m) m ≡ min (a + suc k * x) m
     by (yes h) = let e : min x m ≡ x = omega arith in rw e
@@ -27,14 +27,14 @@ unfoldable pub Upto : ℕ → List ℕ → Command → ℕ → List ℕ → List
 Upto n sums c runs counts out = (k : ℕ) → k < n → get_or out k 0 ≡ cap (get_or sums k 0 + weight k c + runs * get_or counts k 0)
 
 module _ (sums : List ℕ) (c : Command) (runs : ℕ) (counts : List ℕ) where
-  pub upto-none : (out : List ℕ) → Upto 0 sums c runs counts out
+  pub upto_none : (out : List ℕ) → Upto 0 sums c runs counts out
   unfolding Upto
-  upto-none out k h = absurd (let y : ⊥ = omega arith in y)
+  upto_none out k h = absurd (let y : ⊥ = omega arith in y)
 
-  pub upto-more : (n : ℕ) (out : List ℕ) (v : ℕ) → n < length out → Upto n sums c runs counts out → v ≡ cap (get_or sums n 0 + weight n c + runs * get_or counts n 0)
+  pub upto_more : (n : ℕ) (out : List ℕ) (v : ℕ) → n < length out → Upto n sums c runs counts out → v ≡ cap (get_or sums n 0 + weight n c + runs * get_or counts n 0)
       → Upto (n + 1) sums c runs counts (set out n v)
   unfolding Upto
-  upto-more n out v room before is k h = by (ℕ_discrete k n)
+  upto_more n out v room before is k h = by (ℕ_discrete k n)
     where
       by : Dec (k ≡ n) → get_or (set out n v) k 0 ≡ cap (get_or sums k 0 + weight k c + runs * get_or counts k 0)
       by (yes e) = rw e (get_or-set_same out n v 0 room ∙ is)

@@ -1,9 +1,9 @@
 -- Cases of our own: tables, and what the reader tells of each: the number for which it is turned down, or where its bodies begin and its counts.
 use Rattle.std.specs.Prelude.{ℕ, zero, suc, ◌+◌, ◌-◌, List, [], ◌∷◌, ◌++◌, map, Bool, true, ◌&&◌, length, drop, replicate}
 use Rattle.program.specs.declared.command.Command.{Command}
-use Rattle.program.specs.Command.{opcode, operandsOf, padded, width, width_at}
-use Rattle.program.specs.Reading.{commandsOf}
-use Rattle.program.specs.Table.{workLimit, table_of}
+use Rattle.program.specs.Command.{opcode, operands_of, padded, width, width_at}
+use Rattle.program.specs.Reading.{commands_of}
+use Rattle.program.specs.Table.{work_limit, table_of}
 use Rattle.program.specs.Same.{same_list}
 use Rattle.program.specs.declared.table.Table.{Table}
 
@@ -13,15 +13,15 @@ pub record Told : Type 0 where
   pub bytes : List ℕ
   pub numbers : List ℕ
 
-unfoldable pub numbersOf : Table → List ℕ
-numbersOf t = t.number ∷ t.layout.bodies ∷ t.work ∷ t.activities ∷ t.clocks ∷ t.accumulators ∷ t.layout.starts
+unfoldable pub numbers_of : Table → List ℕ
+numbers_of t = t.number ∷ t.layout.bodies ∷ t.work ∷ t.activities ∷ t.clocks ∷ t.accumulators ∷ t.layout.starts
 
 unfoldable pub tells : Told → Bool
-tells c = same_list (numbersOf (table_of workLimit c.bytes)) c.numbers
+tells c = same_list (numbers_of (table_of work_limit c.bytes)) c.numbers
 
-unfoldable pub allTell : List Told → Bool
-allTell [] = true
-allTell (c ∷ cs) = let r = allTell cs in tells c && r
+unfoldable pub all_tell : List Told → Bool
+all_tell [] = true
+all_tell (c ∷ cs) = let r = all_tell cs in tells c && r
 
 -- Accepted: the starts of the bodies; the work, the activities, the clocks and the accumulators.
 abbrev accepted : List ℕ → List ℕ → ℕ → ℕ → ℕ → ℕ → Told
@@ -55,8 +55,8 @@ abbrev repeated : ℕ → List ℕ → List ℕ
 repeated n commands = 0x03 ∷ 0x07 ∷ n ∷ 0x01 ∷ 0x00 ∷ commands ++ (0x00 ∷ 0x00 ∷ [])
 
 -- Every command, in four bodies; both clocks and accumulators, in different numbers.
-abbrev everyCommand : List ℕ
-everyCommand =
+abbrev every_command : List ℕ
+every_command =
     0x04
     -- CLOCK 7, REPEAT 3 1, ACC 7 2, ASYNC 2 FF, FINISH 3, END: 1 + (1 + 3 * 36) + 1 + (1 + 17) + (1 + 11) + 1
     ∷ 0x02 ∷ 0x07 ∷ 0x07 ∷ 0x03 ∷ 0x01 ∷ 0x08 ∷ 0x07 ∷ 0x02 ∷ 0x05 ∷ 0x02 ∷ 0xFF ∷ 0x06 ∷ 0x03 ∷ 0x00
@@ -74,7 +74,7 @@ complete =
     accepted (0x01 ∷ 0x00 ∷ []) (1 ∷ []) 1 1 0 0
     -- Sixteen bodies.
     ∷ accepted (0x10 ∷ replicate 16 0x00) (1 ∷ 2 ∷ 3 ∷ 4 ∷ 5 ∷ 6 ∷ 7 ∷ 8 ∷ 9 ∷ 10 ∷ 11 ∷ 12 ∷ 13 ∷ 14 ∷ 15 ∷ 16 ∷ []) 1 1 0 0
-    ∷ accepted everyCommand (1 ∷ 15 ∷ 30 ∷ 48 ∷ []) 142 5 12 15
+    ∷ accepted every_command (1 ∷ 15 ∷ 30 ∷ 48 ∷ []) 142 5 12 15
     -- "A table's counts are those of body 0": body 1 is named by nobody.
     ∷ accepted (0x02 ∷ 0x00 ∷ 0x01 ∷ 0x02 ∷ 0x00 ∷ 0x08 ∷ 0x00 ∷ 0x00 ∷ 0x00 ∷ []) (1 ∷ 2 ∷ []) 1 1 0 0
     -- The greatest c, a, o, d and k, and the least k.
@@ -90,8 +90,8 @@ longest = accepted (nexts 2046) (1 ∷ []) 4093 1 0 0 ∷ refused 1 (nexts 2047)
 
 -- NUMBERS 1 TO 8
 
-unfoldable pub turnedDown : List Told
-turnedDown =
+unfoldable pub turned_down : List Told
+turned_down =
     refused 1 []
     ∷ refused 1 (0x00 ∷ [])
     ∷ refused 1 (0x01 ∷ [])
@@ -217,16 +217,16 @@ limited =
 -- The bytes of commands, from their bytes and operands.
 unfoldable pub spelt : List Command → List ℕ
 spelt [] = []
-spelt (c ∷ cs) = opcode c ∷ operandsOf c ++ spelt cs
+spelt (c ∷ cs) = opcode c ∷ operands_of c ++ spelt cs
 
-abbrev readBack : List ℕ → Bool
-readBack t = same_list (spelt (commandsOf t)) (drop 1 t)
+abbrev read_back : List ℕ → Bool
+read_back t = same_list (spelt (commands_of t)) (drop 1 t)
 
 -- They are the bytes that were read. How many bytes each command byte takes with its operands; one that is no command stands alone. The first four of a list.
 unfoldable pub spells : Bool
 spells =
-    (readBack everyCommand && readBack (0x01 ∷ 0x0C ∷ 0xFF ∷ 0xFF ∷ 0xFF ∷ 0xFF ∷ 0x0C ∷ 0x00 ∷ 0x00 ∷ 0x00 ∷ 0x01 ∷ 0x00 ∷ []))
-    && (same_list (map width (commandsOf everyCommand)) (map (λ c. length (operandsOf c) + 1) (commandsOf everyCommand))
+    (read_back every_command && read_back (0x01 ∷ 0x0C ∷ 0xFF ∷ 0xFF ∷ 0xFF ∷ 0xFF ∷ 0x0C ∷ 0x00 ∷ 0x00 ∷ 0x00 ∷ 0x01 ∷ 0x00 ∷ []))
+    && (same_list (map width (commands_of every_command)) (map (λ c. length (operands_of c) + 1) (commands_of every_command))
     && (same_list (map width_at (0 ∷ 1 ∷ 2 ∷ 3 ∷ 4 ∷ 5 ∷ 6 ∷ 7 ∷ 8 ∷ 9 ∷ 10 ∷ 11 ∷ 12 ∷ 13 ∷ 14 ∷ 15 ∷ 16 ∷ 17 ∷ 18 ∷ 255 ∷ []))
     (1 ∷ 1 ∷ 2 ∷ 2 ∷ 2 ∷ 3 ∷ 2 ∷ 3 ∷ 3 ∷ 2 ∷ 2 ∷ 2 ∷ 5 ∷ 2 ∷ 2 ∷ 2 ∷ 2 ∷ 2 ∷ 1 ∷ 1 ∷ [])
     && (same_list (padded []) (0 ∷ 0 ∷ 0 ∷ 0 ∷ []) && same_list (padded (5 ∷ 6 ∷ 7 ∷ 8 ∷ 9 ∷ [])) (5 ∷ 6 ∷ 7 ∷ 8 ∷ []))))

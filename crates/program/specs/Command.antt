@@ -86,25 +86,25 @@ opcode (Atom k) = 0x10
 opcode (Choose b) = 0x11
 
 -- A command's operand bytes, in the order of the table.
-abbrev pub operandsOf : Command → List ℕ
-operandsOf End = []
-operandsOf Next = []
-operandsOf (Clock c) = c ∷ []
-operandsOf (Resume c) = c ∷ []
-operandsOf (Drop c) = c ∷ []
-operandsOf (Async b m) = b ∷ m ∷ []
-operandsOf (Finish b) = b ∷ []
-operandsOf (Repeat n b) = n ∷ b ∷ []
-operandsOf (Acc a o) = a ∷ o ∷ []
-operandsOf (Offer a) = a ∷ []
-operandsOf (Read a) = a ∷ []
-operandsOf (Reset a) = a ∷ []
-operandsOf (Put v) = v % 256 ∷ v / 256 % 256 ∷ v / 65536 % 256 ∷ v / 16777216 % 256 ∷ []
-operandsOf (Fetch d) = d ∷ []
-operandsOf (Store d) = d ∷ []
-operandsOf (Add d) = d ∷ []
-operandsOf (Atom k) = k ∷ []
-operandsOf (Choose b) = b ∷ []
+abbrev pub operands_of : Command → List ℕ
+operands_of End = []
+operands_of Next = []
+operands_of (Clock c) = c ∷ []
+operands_of (Resume c) = c ∷ []
+operands_of (Drop c) = c ∷ []
+operands_of (Async b m) = b ∷ m ∷ []
+operands_of (Finish b) = b ∷ []
+operands_of (Repeat n b) = n ∷ b ∷ []
+operands_of (Acc a o) = a ∷ o ∷ []
+operands_of (Offer a) = a ∷ []
+operands_of (Read a) = a ∷ []
+operands_of (Reset a) = a ∷ []
+operands_of (Put v) = v % 256 ∷ v / 256 % 256 ∷ v / 65536 % 256 ∷ v / 16777216 % 256 ∷ []
+operands_of (Fetch d) = d ∷ []
+operands_of (Store d) = d ∷ []
+operands_of (Add d) = d ∷ []
+operands_of (Atom k) = k ∷ []
+operands_of (Choose b) = b ∷ []
 
 -- The first four of a list, 0 for those that it lacks.
 abbrev pub padded : List ℕ → List ℕ
@@ -115,8 +115,8 @@ abbrev pub word : List ℕ → ℕ
 word s = get_or s 0 0 + 256 * get_or s 1 0 + 65536 * get_or s 2 0 + 16777216 * get_or s 3 0
 
 -- The command of a byte whose operands stand at the start of a list.
-unfoldable pub commandOf : ℕ → List ℕ → Command
-commandOf op s =
+unfoldable pub command_of : ℕ → List ℕ → Command
+command_of op s =
     let x = get_or s 0 0 in
     let y = get_or s 1 0 in
     get_or
@@ -151,44 +151,44 @@ row_of c = row_at (opcode c)
 unfoldable pub width : Command → ℕ
 width c = length (row_of c).operands + 1
 
-abbrev pub isBody : Operand → Bool
-isBody clockName = false
-isBody accumulatorName = false
-isBody operatorCode = false
-isBody mask = false
-isBody bodyNumber = true
-isBody runCount = false
-isBody commandCount = false
-isBody cellNumber = false
-isBody valueByte = false
+abbrev pub is_body : Operand → Bool
+is_body clockName = false
+is_body accumulatorName = false
+is_body operatorCode = false
+is_body mask = false
+is_body bodyNumber = true
+is_body runCount = false
+is_body commandCount = false
+is_body cellNumber = false
+is_body valueByte = false
 
-abbrev pub isRunCount : Operand → Bool
-isRunCount clockName = false
-isRunCount accumulatorName = false
-isRunCount operatorCode = false
-isRunCount mask = false
-isRunCount bodyNumber = false
-isRunCount runCount = true
-isRunCount commandCount = false
-isRunCount cellNumber = false
-isRunCount valueByte = false
+abbrev pub is_run_count : Operand → Bool
+is_run_count clockName = false
+is_run_count accumulatorName = false
+is_run_count operatorCode = false
+is_run_count mask = false
+is_run_count bodyNumber = false
+is_run_count runCount = true
+is_run_count commandCount = false
+is_run_count cellNumber = false
+is_run_count valueByte = false
 
-abbrev pub isCommandCount : Operand → Bool
-isCommandCount clockName = false
-isCommandCount accumulatorName = false
-isCommandCount operatorCode = false
-isCommandCount mask = false
-isCommandCount bodyNumber = false
-isCommandCount runCount = false
-isCommandCount commandCount = true
-isCommandCount cellNumber = false
-isCommandCount valueByte = false
+abbrev pub is_command_count : Operand → Bool
+is_command_count clockName = false
+is_command_count accumulatorName = false
+is_command_count operatorCode = false
+is_command_count mask = false
+is_command_count bodyNumber = false
+is_command_count runCount = false
+is_command_count commandCount = true
+is_command_count cellNumber = false
+is_command_count valueByte = false
 
 -- The operand whose kind passes the test, or the number given where none does.
-abbrev pub operandWhere : (Operand → Bool) → ℕ → List Operand → List ℕ → ℕ
-operandWhere test default [] values = default
-operandWhere test default (kind ∷ kinds) [] = default
-operandWhere test default (kind ∷ kinds) (x ∷ values) = cond (test kind) x (operandWhere test default kinds values)
+abbrev pub operand_where : (Operand → Bool) → ℕ → List Operand → List ℕ → ℕ
+operand_where test default [] values = default
+operand_where test default (kind ∷ kinds) [] = default
+operand_where test default (kind ∷ kinds) (x ∷ values) = cond (test kind) x (operand_where test default kinds values)
 
 abbrev pub has : (Operand → Bool) → List Operand → Bool
 has test [] = false
@@ -196,22 +196,22 @@ has test (kind ∷ kinds) = test kind || has test kinds
 
 -- Whether a command names a body; which; and how often the counts take it: FINISH, ASYNC and CHOOSE once, REPEAT n times.
 unfoldable pub names : Command → Bool
-names c = has isBody (row_of c).operands
+names c = has is_body (row_of c).operands
 
 unfoldable pub named : Command → ℕ
-named c = operandWhere isBody 0 (row_of c).operands (operandsOf c)
+named c = operand_where is_body 0 (row_of c).operands (operands_of c)
 
 unfoldable pub times : Command → ℕ
-times c = cond (names c) (operandWhere isRunCount 1 (row_of c).operands (operandsOf c)) 0
+times c = cond (names c) (operand_where is_run_count 1 (row_of c).operands (operands_of c)) 0
 
 -- How many of the commands that follow belong to a command: the k of ATOM.
 unfoldable pub held : Command → ℕ
-held c = operandWhere isCommandCount 0 (row_of c).operands (operandsOf c)
+held c = operand_where is_command_count 0 (row_of c).operands (operands_of c)
 
 -- "each body .. ends with its first END"
-unfoldable pub isEnd : Command → Bool
-isEnd c = eqb (opcode c) 0x00
+unfoldable pub is_end : Command → Bool
+is_end c = eqb (opcode c) 0x00
 
 -- "the next k commands, all 0D to 0F"
-unfoldable pub usesCell : Command → Bool
-usesCell c = leb 0x0D (opcode c) && leb (opcode c) 0x0F
+unfoldable pub uses_cell : Command → Bool
+uses_cell c = leb 0x0D (opcode c) && leb (opcode c) 0x0F

@@ -1,9 +1,9 @@
 -- Whether two tests or two lists are the same: what cases are compared with.
 use Rattle.std.specs.Prelude.{ℕ, List, [], ◌∷◌, Bool, true, false, ◌&&◌, not, eqb}
 
-abbrev pub sameBool : Bool → Bool → Bool
-sameBool true y = y
-sameBool false y = not y
+abbrev pub same_bool : Bool → Bool → Bool
+same_bool true y = y
+same_bool false y = not y
 
 unfoldable pub same_list : List ℕ → List ℕ → Bool
 same_list [] [] = true

@@ -1,6 +1,6 @@
 // The commands of a table.
 ghost use Rattle.std.specs.Prelude.{◌≡◌, [], ◌∷◌, ◌<◌, ◌%◌, ◌/◌};
-ghost use Rattle.program.specs.Command.{width_at, opcode, operandsOf, padded, names, named, times, held, isEnd, usesCell};
+ghost use Rattle.program.specs.Command.{width_at, opcode, operands_of, padded, names, named, times, held, is_end, uses_cell};
 ghost use Rattle.program.specs.Inner.Coding.{commands};
 
 // A command with its operands as they stand in the table.
@@ -73,7 +73,7 @@ fn bytes_of(v: u32) -> [u8; 4]
 
 // A command's operand bytes, and 0 for those that it lacks.
 pub fn operands(command: Command) -> [u8; 4]
-    ensures { result ≡ padded (operandsOf command) }
+    ensures { result ≡ padded (operands_of command) }
 {
     match command {
         Command::End => [0, 0, 0, 0],
@@ -175,14 +175,14 @@ pub(crate) fn held(command: Command) -> usize
 
 // Whether a command is END.
 pub(crate) fn is_end(command: Command) -> bool
-    ensures { result ≡ isEnd command }
+    ensures { result ≡ is_end command }
 {
     opcode(command) == 0
 }
 
 // Whether a command is one of 0D to 0F.
 pub(crate) fn uses_cell(command: Command) -> bool
-    ensures { result ≡ usesCell command }
+    ensures { result ≡ uses_cell command }
 {
     let op = opcode(command);
     13 <= op && op <= 15

@@ -1,9 +1,9 @@
 // A whole table: numbers 1 to 8, where each body begins, and the place of every command.
 ghost use Rattle.std.specs.Prelude.{◌≡◌, ◌+◌, ◌<◌, ◌≤◌, length};
-ghost use Rattle.program.specs.Reading.{refusalOf, readings};
-ghost use Rattle.program.specs.Scan.{nameFits, placing, leftAfter};
+ghost use Rattle.program.specs.Reading.{refusal_of, readings};
+ghost use Rattle.program.specs.Scan.{name_fits, placing, left_after};
 ghost use Rattle.program.specs.Places.{places_of};
-ghost use Rattle.program.specs.Inner.Scanned.{opening, extentOf, mark_of, MarksBody, numberIn, refusedBy, scannedOf};
+ghost use Rattle.program.specs.Inner.Scanned.{opening, extent_of, mark_of, MarksBody, number_in, refused_by, scanned_of};
 
 use super::command::{Command, held, is_end, named, names, uses_cell, wide};
 use super::reading::{Reading, read};
@@ -31,7 +31,7 @@ pub struct Scanned {
 
 // The number of a reading that found no whole command.
 fn refusal(found: Reading) -> u8
-    ensures { result ≡ refusalOf found }
+    ensures { result ≡ refusal_of found }
 {
     match found {
         Reading::Whole {
@@ -46,7 +46,7 @@ fn refusal(found: Reading) -> u8
 
 // Whether a command of a body names a later one, where it names one.
 fn name_fits(bodies: usize, body: usize, command: Command) -> bool
-    ensures { result ≡ nameFits bodies body command }
+    ensures { result ≡ name_fits bodies body command }
 {
     if names(command) {
         let b = named(command);
@@ -71,7 +71,7 @@ fn placing(bodies: usize, body: usize, left: usize, command: Command) -> u8
 
 // How many commands belong to an ATOM after a command.
 fn left_after(left: usize, command: Command) -> usize
-    ensures { result ≡ leftAfter left command }
+    ensures { result ≡ left_after left command }
 {
     if left == 0 { held(command) } else { left - 1 }
 }
@@ -93,7 +93,7 @@ fn body_extent(
     marks: &mut [u8; 2048],
 ) -> Extent
     requires { (body < 16) × (first + length code.now ≤ 2048) }
-    ensures value { result ≡ extentOf bodies body 0 0 (readings code.now) }
+    ensures value { result ≡ extent_of bodies body 0 0 (readings code.now) }
     ensures marks_body { MarksBody body code.now first marks.old marks.new result }
 {
     let mut at: usize = 0;
@@ -138,7 +138,7 @@ fn opening(table: &[u8]) -> u8
 
 // The answer to a table that is turned down.
 fn refused(number: u8) -> Scanned
-    ensures { result ≡ refusedBy number }
+    ensures { result ≡ refused_by number }
 {
     Scanned {
         number,
@@ -151,7 +151,7 @@ fn refused(number: u8) -> Scanned
 
 // The number of a body's extent, 0 where it has an end.
 fn number_in(extent: Extent) -> u8
-    ensures { result ≡ numberIn extent }
+    ensures { result ≡ number_in extent }
 {
     match extent {
         Extent::Refused(number) => number,
@@ -161,7 +161,7 @@ fn number_in(extent: Extent) -> u8
 
 // Reads a whole table: numbers 1 to 8 in checking order, where each body begins, and the marks, all 0 where the table is turned down.
 pub fn scan(table: &[u8], marks: &mut [u8; 2048]) -> Scanned
-    ensures value { result ≡ scannedOf table.now }
+    ensures value { result ≡ scanned_of table.now }
     ensures marks_after { marks.new ≡ places_of table.now }
 {
     *marks = [0u8; 2048];

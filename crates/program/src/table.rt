@@ -1,8 +1,8 @@
 // A table that is read and counted: numbers 1 to 12.
 ghost use Rattle.std.specs.Prelude.{◌≡◌, ◌+◌};
 ghost use Rattle.program.specs.Places.{places_of};
-ghost use Rattle.program.specs.Table.{workLimit, table_of, refusedWith};
-ghost use Rattle.program.specs.Inner.Counting.{overCounts};
+ghost use Rattle.program.specs.Table.{work_limit, table_of, refused_with};
+ghost use Rattle.program.specs.Inner.Counting.{over_counts};
 
 use super::count::counts;
 use super::scan::{Layout, scan};
@@ -20,7 +20,7 @@ pub struct Table {
 
 // The answer to a table that is turned down.
 fn refused_with(number: u8) -> Table
-    ensures { result ≡ refusedWith number }
+    ensures { result ≡ refused_with number }
 {
     Table {
         number,
@@ -37,7 +37,7 @@ fn refused_with(number: u8) -> Table
 
 // Numbers 9 to 12 in this order, or 0: main is an activity more than are counted.
 fn over(totals: [u64; 4]) -> u8
-    ensures { result ≡ overCounts totals }
+    ensures { result ≡ over_counts totals }
 {
     if 63 < totals[1] {
         return 9;
@@ -57,7 +57,7 @@ fn over(totals: [u64; 4]) -> u8
 // Reads and counts a table: numbers 1 to 12 in checking order. For each byte the mark is the number of its body plus 1 where a command of the body starts, and
 // 0 elsewhere: all 0 where one of the numbers 1 to 8 turns the table down.
 pub fn read_places(table: &[u8], marks: &mut [u8; 2048]) -> Table
-    ensures value { result ≡ table_of workLimit table.now }
+    ensures value { result ≡ table_of work_limit table.now }
     ensures marks_after { marks.new ≡ places_of table.now }
 {
     let scanned = scan(table, marks);
@@ -83,7 +83,7 @@ pub fn read_places(table: &[u8], marks: &mut [u8; 2048]) -> Table
 
 // The same without the places.
 pub fn read_table(table: &[u8]) -> Table
-    ensures { result ≡ table_of workLimit table.now }
+    ensures { result ≡ table_of work_limit table.now }
 {
     let mut marks = [0u8; 2048];
     read_places(table, &mut marks)

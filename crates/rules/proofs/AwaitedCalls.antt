@@ -16,38 +16,38 @@ use Rattle.rules.specs.declared.state.Status.TheVariants.{Running, AtBarrier, En
 use Rattle.rules.specs.declared.state.State.{State}
 use Rattle.rules.specs.declared.answer.Answer.{Answer}
 use Rattle.rules.specs.declared.answer.Answer.TheVariants.{Accepted, Refused}
-use Rattle.rules.specs.State.{faultNumber, statusAnswer, answerNumber}
+use Rattle.rules.specs.State.{fault_number, status_answer, answer_number}
 use Rattle.rules.specs.Effects.{applied}
-use Rattle.rules.specs.WellFormed.{wellFormed}
-use Rattle.rules.specs.Steps.{Limits, awaited, effect, refusal, exceeds, stepped, advance, unfit, stepWith, step, startState, awaitedCount}
-use Rattle.rules.specs.Runs.{answersFrom, awaitedFrom, awaiteds}
-use Rattle.rules.proofs.Awaited.{awaited-zero}
-use Rattle.rules.proofs.Calls.{start-taken}
+use Rattle.rules.specs.WellFormed.{well_formed}
+use Rattle.rules.specs.Steps.{Limits, awaited, effect, refusal, exceeds, stepped, advance, unfit, step_with, step, start_state, awaited_count}
+use Rattle.rules.specs.Runs.{answers_from, awaited_from, awaiteds}
+use Rattle.rules.proofs.Awaited.{awaited_zero}
+use Rattle.rules.proofs.Calls.{start_taken}
 
-fault-other : (f : Fault) → eqb (100 + faultNumber f) 16 ≡ false
-fault-other f = ne_eqb (100 + faultNumber f) 16 (λ e. omega arith)
+fault_other : (f : Fault) → eqb (100 + fault_number f) 16 ≡ false
+fault_other f = ne_eqb (100 + fault_number f) 16 (λ e. omega arith)
 
 -- A step that is taken is not answered with 16.
-taken-other : (x : Status) → eqb (statusAnswer x) 16 ≡ false
-taken-other Running = refl
-taken-other AtBarrier = refl
-taken-other Ended = refl
-taken-other (Faulted f) = fault-other f
+taken_other : (x : Status) → eqb (status_answer x) 16 ≡ false
+taken_other Running = refl
+taken_other AtBarrier = refl
+taken_other Ended = refl
+taken_other (Faulted f) = fault_other f
 
 module _ (l : Limits) (t : List ℕ) where
   -- Nor one that 1 to 13 turn down.
-  unfit-other : (s : State) → eqb (unfit l (number_of l.work t) (program_of t) s) 16 ≡ false
+  unfit_other : (s : State) → eqb (unfit l (number_of l.work t) (program_of t) s) 16 ≡ false
   unfolding unfit
-  unfit-other s = go (number_of l.work t) (number_small l.work t) (eqb (number_of l.work t) 0) (wellFormed l.phase (program_of t) s)
+  unfit_other s = go (number_of l.work t) (number_small l.work t) (eqb (number_of l.work t) 0) (well_formed l.phase (program_of t) s)
     where
       go : (n : ℕ) → n ≤ 12 → (x w : Bool) → eqb (cond x (cond w 0 13) n) 16 ≡ false
       go n h true true = refl
       go n h true false = refl
       go n h false w = ne_eqb n 16 (λ e. omega arith)
 
-  pub awaited-answer : (s : State) (i : ℕ) → ltb 0 (awaitedCount l t s i) ≡ eqb (answerNumber (step l t s i).answer) 16
-  unfolding awaitedCount step stepWith advance
-  awaited-answer s i = go (eqb (unfit l (number_of l.work t) p s) 0)
+  pub awaited_answer : (s : State) (i : ℕ) → ltb 0 (awaited_count l t s i) ≡ eqb (answer_number (step l t s i).answer) 16
+  unfolding awaited_count step step_with advance
+  awaited_answer s i = go (eqb (unfit l (number_of l.work t) p s) 0)
     where
       p : Program
       p = program_of t
@@ -56,21 +56,21 @@ module _ (l : Limits) (t : List ℕ) where
       r = refusal p s i
 
       turn : (y : Bool) → eqb r 0 ≡ y → (z : Bool)
-          → eqb r 16 ≡ eqb (answerNumber (cond y (cond z (stepped (Refused 17) s) (stepped (Accepted (effect p s i).self.status) (applied s i (effect p s i)))) (stepped (Refused r) s)).answer) 16
+          → eqb r 16 ≡ eqb (answer_number (cond y (cond z (stepped (Refused 17) s) (stepped (Accepted (effect p s i).self.status) (applied s i (effect p s i)))) (stepped (Refused r) s)).answer) 16
       turn true e true = rw (eqb-true r 0 e)
-      turn true e false = rw (eqb-true r 0 e) (sym (taken-other (effect p s i).self.status))
+      turn true e false = rw (eqb-true r 0 e) (sym (taken_other (effect p s i).self.status))
       turn false e z = refl
 
-      go : (x : Bool) → ltb 0 (cond x (awaited p s i) 0) ≡ eqb (answerNumber (cond x (advance l p s i) (stepped (Refused (unfit l (number_of l.work t) p s)) s)).answer) 16
-      go true = awaited-zero p s i ∙ turn (eqb r 0) refl (exceeds l p s (effect p s i))
-      go false = sym (unfit-other s)
+      go : (x : Bool) → ltb 0 (cond x (awaited p s i) 0) ≡ eqb (answer_number (cond x (advance l p s i) (stepped (Refused (unfit l (number_of l.work t) p s)) s)).answer) 16
+      go true = awaited_zero p s i ∙ turn (eqb r 0) refl (exceeds l p s (effect p s i))
+      go false = sym (unfit_other s)
 
-  pub awaited-answers : (s : State) (order : List ℕ) → map (ltb 0) (awaitedFrom l t s order) ≡ map (λ (a : Answer). eqb (answerNumber a) 16) (answersFrom l t s order)
-  unfolding awaitedFrom answersFrom
-  awaited-answers s [] = refl
-  awaited-answers s (i ∷ order) = rw (awaited-answer s i, awaited-answers (step l t s i).state order)
+  pub awaited_answers : (s : State) (order : List ℕ) → map (ltb 0) (awaited_from l t s order) ≡ map (λ (a : Answer). eqb (answer_number a) 16) (answers_from l t s order)
+  unfolding awaited_from answers_from
+  awaited_answers s [] = refl
+  awaited_answers s (i ∷ order) = rw (awaited_answer s i, awaited_answers (step l t s i).state order)
 
   -- From the start state of an accepted table on.
-  pub awaiteds-start : number_of l.work t ≡ 0 → (order : List ℕ) → awaiteds l t order ≡ awaitedFrom l t startState order
+  pub awaiteds_start : number_of l.work t ≡ 0 → (order : List ℕ) → awaiteds l t order ≡ awaited_from l t start_state order
   unfolding awaiteds
-  awaiteds-start n order = ap (λ (s : State). awaitedFrom l t s order) (start-taken l t n)
+  awaiteds_start n order = ap (λ (s : State). awaited_from l t s order) (start_taken l t n)

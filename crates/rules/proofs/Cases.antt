@@ -1,134 +1,134 @@
 -- The cases hold: computed from the rules.
 use mathlib.Core.Path.{◌≡◌, refl}
 use mathlib.Core.Bool.{Bool, true, ◌&&◌}
-use Rattle.rules.specs.Same.{activityNumbers, sameActivities, sharedNumbers, sameState}
-use Rattle.rules.specs.Written.{activity, written, withActs, withAccs, withCounts, change, changeAcc, nest, nested, pair, paired, crowd, crowded, deep, deepest, atom, standing}
-use Rattle.rules.specs.CasesStates.{allUnfit, breaks, allBreak, broken, stacked, every, unrun, highest, mainly, over, unmade, spawned, last}
-use Rattle.rules.specs.CasesCalls.{startsSo, allStart, started, answersSo, allSo, reader, reading, lined, finish, handMade, allFault, breaches, rowsBegin, shows, allShow, renamed, cornered, sheets, quietFrom, allQuiet, quiets}
-use Rattle.rules.specs.CasesAwaited.{waitsAlong, waitsSo, allWait, waited, countsSo, allCount, standingLine, asked}
-use Rattle.rules.specs.CasesPassedOn.{passedOn, lost, handedOn}
-use Rattle.rules.specs.CasesChosen.{chosen, chosenWork, sparesSo, allSpare, sparing, underChoose, choosing, unawaited}
-use Rattle.rules.specs.CasesRuns.{goes, goesSo, allGo, naming, faulting, affected}
-use Rattle.rules.specs.CasesValues.{beginsWith, leaves, allLeave, valued}
-use Rattle.rules.specs.Cases.{numbered, hasFault, accepts, holdsFor, allHold, marked, unfinished, answersBy, stateBy, answersAs, allAnswer, own, lines_from, printed, walkPrints}
-use Rattle.rules.proofs.Opened.{rules-opened}
+use Rattle.rules.specs.Same.{activity_numbers, same_activities, shared_numbers, same_state}
+use Rattle.rules.specs.Written.{activity, written, with_acts, with_accs, with_counts, change, change_acc, nest, nested, pair, paired, crowd, crowded, deep, deepest, atom, standing}
+use Rattle.rules.specs.CasesStates.{all_unfit, breaks, all_break, broken, stacked, every, unrun, highest, mainly, over, unmade, spawned, last}
+use Rattle.rules.specs.CasesCalls.{starts_so, all_start, started, answers_so, all_so, reader, reading, lined, finish, hand_made, all_fault, breaches, rows_begin, shows, all_show, renamed, cornered, sheets, quiet_from, all_quiet, quiets}
+use Rattle.rules.specs.CasesAwaited.{waits_along, waits_so, all_wait, waited, counts_so, all_count, standing_line, asked}
+use Rattle.rules.specs.CasesPassedOn.{passed_on, lost, handed_on}
+use Rattle.rules.specs.CasesChosen.{chosen, chosen_work, spares_so, all_spare, sparing, under_choose, choosing, unawaited}
+use Rattle.rules.specs.CasesRuns.{goes, goes_so, all_go, naming, faulting, affected}
+use Rattle.rules.specs.CasesValues.{begins_with, leaves, all_leave, valued}
+use Rattle.rules.specs.Cases.{numbered, has_fault, accepts, holds_for, all_hold, marked, unfinished, answers_by, state_by, answers_as, all_answer, own, lines_from, printed, walk_prints}
+use Rattle.rules.proofs.Opened.{rules_opened}
 
 -- To name this on an `unfolding` line is to open the rules and the cases, for computing with them.
 unfoldable pub opened : Bool
-unfolding rules-opened numbered hasFault accepts holdsFor allHold marked unfinished answersBy stateBy answersAs allAnswer own beginsWith leaves allLeave valued activityNumbers sameActivities sharedNumbers sameState activity written withActs withAccs withCounts change changeAcc nest nested pair paired crowd crowded deep deepest atom standing goes goesSo allGo naming faulting affected allUnfit breaks allBreak broken stacked every unrun highest mainly over unmade spawned last startsSo allStart started answersSo allSo reader reading lined finish handMade allFault breaches rowsBegin shows allShow renamed cornered sheets quietFrom allQuiet quiets lines_from printed walkPrints waitsAlong waitsSo allWait waited countsSo allCount standingLine asked passedOn lost handedOn chosen chosenWork sparesSo allSpare sparing underChoose choosing unawaited
+unfolding rules_opened numbered has_fault accepts holds_for all_hold marked unfinished answers_by state_by answers_as all_answer own begins_with leaves all_leave valued activity_numbers same_activities shared_numbers same_state activity written with_acts with_accs with_counts change change_acc nest nested pair paired crowd crowded deep deepest atom standing goes goes_so all_go naming faulting affected all_unfit breaks all_break broken stacked every unrun highest mainly over unmade spawned last starts_so all_start started answers_so all_so reader reading lined finish hand_made all_fault breaches rows_begin shows all_show renamed cornered sheets quiet_from all_quiet quiets lines_from printed walk_prints waits_along waits_so all_wait waited counts_so all_count standing_line asked passed_on lost handed_on chosen chosen_work spares_so all_spare sparing under_choose choosing unawaited
 opened = true
 
-marked-hold : allHold marked ≡ true
+marked_hold : all_hold marked ≡ true
 unfolding opened
-marked-hold = refl
+marked_hold = refl
 
-own-hold : allHold unfinished ≡ true
+own_hold : all_hold unfinished ≡ true
 unfolding opened
-own-hold = refl
+own_hold = refl
 
-walk-prints : walkPrints ≡ true
+walk_prints_lem : walk_prints ≡ true
 unfolding opened
-walk-prints = refl
+walk_prints_lem = refl
 
-own-answer : allAnswer own ≡ true
+own_answer : all_answer own ≡ true
 unfolding opened
-own-answer = refl
+own_answer = refl
 
-values-left : allLeave valued ≡ true
+values_left : all_leave valued ≡ true
 unfolding opened
-values-left = refl
+values_left = refl
 
-names-go : allGo naming ≡ true
+names_go : all_go naming ≡ true
 unfolding opened
-names-go = refl
+names_go = refl
 
-faults-go : allGo faulting ≡ true
+faults_go : all_go faulting ≡ true
 unfolding opened
-faults-go = refl
+faults_go = refl
 
-effects-go : allGo affected ≡ true
+effects_go : all_go affected ≡ true
 unfolding opened
-effects-go = refl
+effects_go = refl
 
-states-break : allBreak broken ≡ true
+states_break : all_break broken ≡ true
 unfolding opened
-states-break = refl
+states_break = refl
 
-parts-break : breaks stacked && (breaks unrun && (breaks highest && (breaks mainly && (breaks over && (breaks unmade && (breaks spawned && breaks last)))))) ≡ true
+parts_break : breaks stacked && (breaks unrun && (breaks highest && (breaks mainly && (breaks over && (breaks unmade && (breaks spawned && breaks last)))))) ≡ true
 unfolding opened
-parts-break = refl
+parts_break = refl
 
-starts-hold : allStart started ≡ true
+starts_hold : all_start started ≡ true
 unfolding opened
-starts-hold = refl
+starts_hold = refl
 
-states-answer : allSo handMade ≡ true
+states_answer : all_so hand_made ≡ true
 unfolding opened
-states-answer = refl
+states_answer = refl
 
-states-fault : allFault breaches ≡ true
+states_fault : all_fault breaches ≡ true
 unfolding opened
-states-fault = refl
+states_fault = refl
 
-sheets-show : allShow sheets ≡ true
+sheets_show : all_show sheets ≡ true
 unfolding opened
-sheets-show = refl
+sheets_show = refl
 
-phases-quiet : allQuiet quiets ≡ true
+phases_quiet : all_quiet quiets ≡ true
 unfolding opened
-phases-quiet = refl
+phases_quiet = refl
 
-enums-numbered : numbered ≡ true
+enums_numbered : numbered ≡ true
 unfolding opened
-enums-numbered = refl
+enums_numbered = refl
 
-runs-wait : allWait waited ≡ true
+runs_wait : all_wait waited ≡ true
 unfolding opened
-runs-wait = refl
+runs_wait = refl
 
-states-wait : allCount asked ≡ true
+states_wait : all_count asked ≡ true
 unfolding opened
-states-wait = refl
+states_wait = refl
 
-runs-pass-on : allGo passedOn ≡ true
+runs_pass_on : all_go passed_on ≡ true
 unfolding opened
-runs-pass-on = refl
+runs_pass_on = refl
 
-work-lost : allHold lost ≡ true
+work_lost : all_hold lost ≡ true
 unfolding opened
-work-lost = refl
+work_lost = refl
 
-states-pass-on : allSo handedOn ≡ true
+states_pass_on : all_so handed_on ≡ true
 unfolding opened
-states-pass-on = refl
+states_pass_on = refl
 
-runs-choose : allGo chosen ≡ true
+runs_choose : all_go chosen ≡ true
 unfolding opened
-runs-choose = refl
+runs_choose = refl
 
-work-chosen : allHold chosenWork ≡ true
+work_chosen : all_hold chosen_work ≡ true
 unfolding opened
-work-chosen = refl
+work_chosen = refl
 
-runs-spare : allSpare sparing ≡ true
+runs_spare : all_spare sparing ≡ true
 unfolding opened
-runs-spare = refl
+runs_spare = refl
 
-states-choose : breaks underChoose && (allSo choosing && allCount unawaited) ≡ true
+states_choose : breaks under_choose && (all_so choosing && all_count unawaited) ≡ true
 unfolding opened
-states-choose = refl
+states_choose = refl
 
 -- Every case of every list.
-pub cases-hold : allHold marked
-    && ((allHold unfinished && walkPrints)
+pub cases_hold : all_hold marked
+    && ((all_hold unfinished && walk_prints)
     && (numbered
-    && (allAnswer own
-    && (allLeave valued
-    && (allGo naming
-    && (allGo faulting
-    && (allGo affected
-    && (allBreak broken
+    && (all_answer own
+    && (all_leave valued
+    && (all_go naming
+    && (all_go faulting
+    && (all_go affected
+    && (all_break broken
     && ((breaks stacked && (breaks unrun && (breaks highest && (breaks mainly && (breaks over && (breaks unmade && (breaks spawned && breaks last)))))))
-    && (allStart started && ((allSo handMade && allFault breaches) && ((allShow sheets && allQuiet quiets) && ((allWait waited && allCount asked) && ((allGo passedOn && (allHold lost && allSo handedOn)) && (allGo chosen && (allHold chosenWork && (allSpare sparing && (breaks underChoose && (allSo choosing && allCount unawaited))))))))))))))))))) ≡ true
-cases-hold =
-    rw (marked-hold, own-hold, walk-prints, enums-numbered, own-answer, values-left, names-go, faults-go, effects-go, states-break, parts-break, starts-hold, states-answer, states-fault, sheets-show, phases-quiet, runs-wait, states-wait, runs-pass-on, work-lost, states-pass-on, runs-choose, work-chosen, runs-spare, states-choose)
+    && (all_start started && ((all_so hand_made && all_fault breaches) && ((all_show sheets && all_quiet quiets) && ((all_wait waited && all_count asked) && ((all_go passed_on && (all_hold lost && all_so handed_on)) && (all_go chosen && (all_hold chosen_work && (all_spare sparing && (breaks under_choose && (all_so choosing && all_count unawaited))))))))))))))))))) ≡ true
+cases_hold =
+    rw (marked_hold, own_hold, walk_prints_lem, enums_numbered, own_answer, values_left, names_go, faults_go, effects_go, states_break, parts_break, starts_hold, states_answer, states_fault, sheets_show, phases_quiet, runs_wait, states_wait, runs_pass_on, work_lost, states_pass_on, runs_choose, work_chosen, runs_spare, states_choose)

@@ -17,17 +17,17 @@ use Rattle.rules.specs.declared.state.Activity.{Activity}
 use Rattle.rules.specs.declared.state.State.{State}
 use Rattle.program.specs.Bodies.{Program}
 use Rattle.rules.specs.Search.{chain}
-use Rattle.rules.specs.State.{act, hold, ended, isEnded}
+use Rattle.rules.specs.State.{act, hold, ended, is_ended}
 use Rattle.rules.specs.Clocks.{holds, is_held}
-use Rattle.rules.specs.Tree.{inside, spawnerOf}
-use Rattle.rules.specs.Faults.{Env, faultFor}
-use Rattle.rules.specs.Effects.{one, Effect, nobody, child, applied, Spawned, spawnedCount}
-use Rattle.rules.proofs.Tests.{true-false}
-use Rattle.rules.proofs.Search.{chain_same, chain-cases, chain-on, chain-above}
-use Rattle.rules.proofs.Shapes.{OfChild, of-child, born, Kind}
-use Rattle.rules.proofs.Applied.{Bounded, Fits, act-self, act-old, each, act-child, Now, self, newborn, other, now}
-use Rattle.rules.proofs.Holders.{begun, Became, unchanged, vacated, quieted, held-quiesced, raised, held-revived, Turned, lent-held, lends}
-use Rattle.rules.proofs.Tree.{Open, inside-first, open_none}
+use Rattle.rules.specs.Tree.{inside, spawner_of}
+use Rattle.rules.specs.Faults.{Env, fault_for}
+use Rattle.rules.specs.Effects.{one, Effect, nobody, child, applied, Spawned, spawned_count}
+use Rattle.rules.proofs.Tests.{true_false}
+use Rattle.rules.proofs.Search.{chain_same, chain_cases, chain_on, chain_above}
+use Rattle.rules.proofs.Shapes.{OfChild, of_child, born, Kind}
+use Rattle.rules.proofs.Applied.{Bounded, Fits, act_self, act_old, each, act_child, Now, self, newborn, other, now}
+use Rattle.rules.proofs.Holders.{begun, Became, unchanged, vacated, quieted, held_quiesced, raised, held_revived, Turned, lent_held, lends}
+use Rattle.rules.proofs.Tree.{Open, inside_first, open_none}
 
 -- What the proof asks of a state.
 pub record Nested (p : Program) (s : State) : Type 0 where
@@ -51,19 +51,19 @@ pub record Born (p : Program) (i : ℕ) (a c : Activity) : Type 0 where
 
 -- An open finish that was open, or one begun just now.
 pub data Was (p : Program) (s : State) (a : Activity) (e : Effect) (j : ℕ) : Type 0 where
-  open-before : Open p a.depth a.frames j → Was p s a e j
-  begun-now : j ≡ s.activities → e.spawned ≡ nobody → Was p s a e j
+  open_before : Open p a.depth a.frames j → Was p s a e j
+  begun_now : j ≡ s.activities → e.spawned ≡ nobody → Was p s a e j
 
 -- What is open after an effect was open, or has begun now.
 unfoldable pub Opening : Program → State → Activity → Effect → Type 0
-Opening p s a e = isEnded e.self.status ≡ false → (j : ℕ) → Open p e.self.depth e.self.frames j → Was p s a e j
+Opening p s a e = is_ended e.self.status ≡ false → (j : ℕ) → Open p e.self.depth e.self.frames j → Was p s a e j
 
 -- What it asks of an effect of activity i.
 pub record Orderly (p : Program) (s : State) (i : ℕ) (e : Effect) : Type 0 where
   pub present : i < s.activities
   pub runs : ended s i ≡ false
   pub fits : Fits s e.spawned
-  pub same-spawner : e.self.spawner ≡ (act s i).spawner
+  pub same_spawner : e.self.spawner ≡ (act s i).spawner
   pub holdings : (k : ℕ) → holds e.self k ≡ true → Held s.clocks (act s i) (hold e.self k)
   pub child : OfChild (Born p i (act s i)) e.spawned
   pub opening : Opening p s (act s i) e
@@ -78,14 +78,14 @@ module _ (p : Program) (s : State) (i : ℕ) (e : Effect) (n : Nested p s) (o : 
   links y l = go (ℕ_discrete y i)
     where
       go : Dec (y ≡ i) → (act s y).spawner ≡ (act (applied s i e) y).spawner
-      go (yes q) = rw (q, act-self s n.bounded i o.present e o.fits) (sym o.same-spawner)
-      go (no q) = rw (act-old s i e y l q)
+      go (yes q) = rw (q, act_self s n.bounded i o.present e o.fits) (sym o.same_spawner)
+      go (no q) = rw (act_old s i e y l q)
 
   -- Of those who were there, the same are inside.
-  pub inside-old : (w j x : ℕ) → x < s.activities → inside s w j x ≡ inside (applied s i e) w j x
+  pub inside_old : (w j x : ℕ) → x < s.activities → inside s w j x ≡ inside (applied s i e) w j x
   unfolding inside
-  inside-old w j x l =
-      chain_same (spawnerOf s) (spawnerOf (applied s i e)) (leb j) (leb j) w 64 64 x
+  inside_old w j x l =
+      chain_same (spawner_of s) (spawner_of (applied s i e)) (leb j) (leb j) w 64 64 x
       (λ y m v. let q = links y (omega arith) in (q, refl, n.falls y (omega arith) (omega arith)))
       (omega (arith, n.bounded.count)) (omega (arith, n.bounded.count))
 
@@ -93,8 +93,8 @@ module _ (p : Program) (s : State) (i : ℕ) (e : Effect) (n : Nested p s) (o : 
   pub falls' : (y : ℕ) → 0 < y → y < (applied s i e).activities → (act (applied s i e) y).spawner < y
   falls' y p l =
       each s n.bounded i o.present e o.fits (λ x a. 0 < x → a.spawner < x) (λ x m q r. n.falls x r m)
-      (λ r. rw o.same-spawner (n.falls i r o.present))
-      (of-child _ (λ a. 0 < s.activities → a.spawner < s.activities) (λ c b r. rw b.spawner o.present) e.spawned o.child)
+      (λ r. rw o.same_spawner (n.falls i r o.present))
+      (of_child _ (λ a. 0 < s.activities → a.spawner < s.activities) (λ c b r. rw b.spawner o.present) e.spawned o.child)
       y l p
 
   module _ (c : Activity) (q : e.spawned ≡ one c) where
@@ -109,8 +109,8 @@ module _ (p : Program) (s : State) (i : ℕ) (e : Effect) (n : Nested p s) (o : 
     its = rw q at o.child
 
     -- It has the next number.
-    is-child : act (applied s i e) s.activities ≡ c
-    is-child = act-child s n.bounded i e c q room
+    is_child : act (applied s i e) s.activities ≡ c
+    is_child = act_child s n.bounded i e c q room
 
     -- And is counted.
     more : s.activities < (applied s i e).activities
@@ -118,27 +118,27 @@ module _ (p : Program) (s : State) (i : ℕ) (e : Effect) (n : Nested p s) (o : 
     more = rw q (omega arith)
 
     -- Its spawner is the activity that stepped.
-    spawner-of : spawnerOf (applied s i e) s.activities ≡ i
-    spawner-of = ap (λ a. a.spawner) is-child ∙ its.spawner
+    spawner_of_lem : spawner_of (applied s i e) s.activities ≡ i
+    spawner_of_lem = ap (λ a. a.spawner) is_child ∙ its.spawner
 
     -- The child is inside what its spawner is inside, and the open finishes of the spawner.
-    child-inside : (w j : ℕ) → inside (applied s i e) w j s.activities ≡ true → ((w ≡ i) × (j ≤ s.activities)) ⊎ (inside s w j i ≡ true)
+    child_inside : (w j : ℕ) → inside (applied s i e) w j s.activities ≡ true → ((w ≡ i) × (j ≤ s.activities)) ⊎ (inside s w j i ≡ true)
     unfolding inside
-    child-inside w j h = go (chain-cases (spawnerOf (applied s i e)) (applied s i e).activities falls' (leb j) w 64 s.activities more room h)
+    child_inside w j h = go (chain_cases (spawner_of (applied s i e)) (applied s i e).activities falls' (leb j) w 64 s.activities more room h)
       where
-        go : ((spawnerOf (applied s i e) s.activities ≡ w) × (leb j s.activities ≡ true))
-            ⊎ (chain (spawnerOf (applied s i e)) (leb j) w 64 (spawnerOf (applied s i e) s.activities) ≡ true)
+        go : ((spawner_of (applied s i e) s.activities ≡ w) × (leb j s.activities ≡ true))
+            ⊎ (chain (spawner_of (applied s i e)) (leb j) w 64 (spawner_of (applied s i e) s.activities) ≡ true)
             → ((w ≡ i) × (j ≤ s.activities)) ⊎ (inside s w j i ≡ true)
-        go (inl r) = inl (sym r.0 ∙ spawner-of, leb-true _ _ r.1)
-        go (inr r) = inr (inside-old w j i o.present ∙ subst (λ x. chain (spawnerOf (applied s i e)) (leb j) w 64 x ≡ true) spawner-of r)
+        go (inl r) = inl (sym r.0 ∙ spawner_of_lem, leb-true _ _ r.1)
+        go (inr r) = inr (inside_old w j i o.present ∙ subst (λ x. chain (spawner_of (applied s i e)) (leb j) w 64 x ≡ true) spawner_of_lem r)
 
     -- It is inside whatever its spawner is inside.
-    child-inside-on : (w j : ℕ) → inside s w j i ≡ true → inside (applied s i e) w j s.activities ≡ true
+    child_inside_on : (w j : ℕ) → inside s w j i ≡ true → inside (applied s i e) w j s.activities ≡ true
     unfolding inside
-    child-inside-on w j h =
-        chain-on (spawnerOf (applied s i e)) (applied s i e).activities falls' (leb j) w 64 s.activities more room
-        (omega (arith, chain-above (spawnerOf s) (leb j) w 64 i h, o.present))
-        (subst (λ x. chain (spawnerOf (applied s i e)) (leb j) w 64 x ≡ true) (sym spawner-of) (sym (inside-old w j i o.present) ∙ h))
+    child_inside_on w j h =
+        chain_on (spawner_of (applied s i e)) (applied s i e).activities falls' (leb j) w 64 s.activities more room
+        (omega (arith, chain_above (spawner_of s) (leb j) w 64 i h, o.present))
+        (subst (λ x. chain (spawner_of (applied s i e)) (leb j) w 64 x ≡ true) (sym spawner_of_lem) (sym (inside_old w j i o.present) ∙ h))
 
   -- A holder after the step stands for one before it.
   record Rep (x k : ℕ) : Type 0 where
@@ -156,11 +156,11 @@ module _ (p : Program) (s : State) (i : ℕ) (e : Effect) (n : Nested p s) (o : 
     maker : x ≡ i → (hold (act (applied s i e) x) k).clock ≡ s.clocks → Holder x k
 
   -- Of the activity that stepped.
-  holder-self : (k : ℕ) → holds (act (applied s i e) i) k ≡ true → Holder i k
-  holder-self k h = go (o.holdings k (rw me at h))
+  holder_self : (k : ℕ) → holds (act (applied s i e) i) k ≡ true → Holder i k
+  holder_self k h = go (o.holdings k (rw me at h))
     where
       me : act (applied s i e) i ≡ e.self
-      me = act-self s n.bounded i o.present e o.fits
+      me = act_self s n.bounded i o.present e o.fits
 
       go : Held s.clocks (act s i) (hold e.self k) → Holder i k
       go (before k' g q) =
@@ -170,39 +170,39 @@ module _ (p : Program) (s : State) (i : ℕ) (e : Effect) (n : Nested p s) (o : 
             slot = k';
             has = g;
             same = rw me q;
-            to = λ w j f r. inside-old w j i o.present ∙ r;
-            from = λ w j r. sym (inside-old w j i o.present) ∙ r;
+            to = λ w j f r. inside_old w j i o.present ∙ r;
+            from = λ w j r. sym (inside_old w j i o.present) ∙ r;
           })
       go (fresh q) = maker refl (rw me q)
 
   -- Of another that was there.
-  holder-old : (x k : ℕ) → x < s.activities → (x ≡ i → ⊥) → holds (act (applied s i e) x) k ≡ true → Holder x k
-  holder-old x k l d h =
+  holder_old : (x k : ℕ) → x < s.activities → (x ≡ i → ⊥) → holds (act (applied s i e) x) k ≡ true → Holder x k
+  holder_old x k l d h =
       stood (record {
         rep = x;
         there = l;
         slot = k;
         has = rw old at h;
         same = rw old;
-        to = λ w j f r. inside-old w j x l ∙ r;
-        from = λ w j r. sym (inside-old w j x l) ∙ r;
+        to = λ w j f r. inside_old w j x l ∙ r;
+        from = λ w j r. sym (inside_old w j x l) ∙ r;
       })
     where
       old : act (applied s i e) x ≡ act s x
-      old = act-old s i e x l d
+      old = act_old s i e x l d
 
   -- Of the one spawned: its spawner stands for it.
-  holder-child : (c : Activity) → e.spawned ≡ one c → (k : ℕ) → holds (act (applied s i e) s.activities) k ≡ true → Holder s.activities k
-  holder-child c q k h =
-      let g = (its c q).lent k (rw (is-child c q) at h) in
+  holder_child : (c : Activity) → e.spawned ≡ one c → (k : ℕ) → holds (act (applied s i e) s.activities) k ≡ true → Holder s.activities k
+  holder_child c q k h =
+      let g = (its c q).lent k (rw (is_child c q) at h) in
       stood (record {
         rep = i;
         there = o.present;
         slot = k;
         has = g.1;
-        same = rw (is-child c q) g.2;
-        to = λ w j f r. into w j f g.0 (child-inside c q w j r);
-        from = child-inside-on c q;
+        same = rw (is_child c q) g.2;
+        to = λ w j f r. into w j f g.0 (child_inside c q w j r);
+        from = child_inside_on c q;
       })
     where
       into : (w j : ℕ) → (w ≡ i → Was p s (act s i) e j) → ((j : ℕ) → Open p (act s i).depth (act s i).frames j → ⊥)
@@ -210,8 +210,8 @@ module _ (p : Program) (s : State) (i : ℕ) (e : Effect) (n : Nested p s) (o : 
       into w j f z (inl r) = absurd (out (f r.0))
         where
           out : Was p s (act s i) e j → ⊥
-          out (open-before m) = z j m
-          out (begun-now m u) = let v : nobody ≡ one c = sym u ∙ q in let k : ◌≡◌ {A = ℕ} 0 1 = cc in omega arith
+          out (open_before m) = z j m
+          out (begun_now m u) = let v : nobody ≡ one c = sym u ∙ q in let k : ◌≡◌ {A = ℕ} 0 1 = cc in omega arith
       into w j f z (inr r) = r
 
   -- Of each.
@@ -219,9 +219,9 @@ module _ (p : Program) (s : State) (i : ℕ) (e : Effect) (n : Nested p s) (o : 
   holder x k l h = go (entry x)
     where
       go : Now s i e x → Holder x k
-      go (self q a) = rw q (holder-self k (rw q at h))
-      go (other d m a) = holder-old x k (m l) d h
-      go (newborn c q f a) = rw f (holder-child c q k (rw f at h))
+      go (self q a) = rw q (holder_self k (rw q at h))
+      go (other d m a) = holder_old x k (m l) d h
+      go (newborn c q f a) = rw f (holder_child c q k (rw f at h))
 
   -- Two holders after the step, for a finish that was open or has begun now.
   core : (w j : ℕ) → w < s.activities → ended s w ≡ false → Was p s (act s w) e j → (w ≡ i → Was p s (act s i) e j) → (x k y l : ℕ)
@@ -231,11 +231,11 @@ module _ (p : Program) (s : State) (i : ℕ) (e : Effect) (n : Nested p s) (o : 
   core w j lw u d f x k y l lx ly hx hy c h = go d (holder x k lx hx) (holder y l ly hy)
     where
       go : Was p s (act s w) e j → Holder x k → Holder y l → inside (applied s i e) w j y ≡ true
-      go (open-before m) (stood a) (stood b) =
+      go (open_before m) (stood a) (stood b) =
           b.from w j
           (n.contained w j lw u m a.rep a.slot b.rep b.slot a.there b.there a.has b.has (b.same ∙ c ∙ sym a.same) (a.to w j f h))
-      go (begun-now m q) (stood a) (stood b) =
-          absurd (omega (arith, inside-first s n.bounded.count n.falls w j a.rep a.there (a.to w j f h), a.there))
+      go (begun_now m q) (stood a) (stood b) =
+          absurd (omega (arith, inside_first s n.bounded.count n.falls w j a.rep a.there (a.to w j f h), a.there))
       go m (stood a) (maker q r) = absurd (omega (arith, n.clocked a.rep a.slot a.there a.has, a.same ∙ sym c ∙ r))
       go m (maker q r) (stood b) = absurd (omega (arith, n.clocked b.rep b.slot b.there b.has, b.same ∙ c ∙ r))
       go m (maker q r) (maker q' r') = rw q' (rw q at h)
@@ -256,7 +256,7 @@ module _ (p : Program) (s : State) (i : ℕ) (e : Effect) (n : Nested p s) (o : 
       go (self q me) =
           let v : Was p s (act s i) e j = o.opening (rw me at u) j (rw me at m) in
           core w j (rw q o.present) (rw q o.runs) (subst (λ w. Was p s (act s w) e j) (sym q) v) (λ z. v)
-      go (other d l old) = core w j (l lw) (rw old at u) (open-before (rw old at m)) (λ z. absurd (d z))
+      go (other d l old) = core w j (l lw) (rw old at u) (open_before (rw old at m)) (λ z. absurd (d z))
       go (newborn c q f is) = absurd ((its c q).none_open j (subst (λ a. Open p a.depth a.frames j) is m))
 
   -- The count of activities when an open finish began is above its owner and no greater than the activities there are.
@@ -266,7 +266,7 @@ module _ (p : Program) (s : State) (i : ℕ) (e : Effect) (n : Nested p s) (o : 
   unfolding Opening applied
   marked' was w j lw u m = go (entry w)
     where
-      grows : (ch : Spawned) → s.activities ≤ spawnedCount s.activities ch
+      grows : (ch : Spawned) → s.activities ≤ spawned_count s.activities ch
       grows nobody = omega arith
       grows (one c) = omega arith
 
@@ -274,8 +274,8 @@ module _ (p : Program) (s : State) (i : ℕ) (e : Effect) (n : Nested p s) (o : 
       on b = (b.0, omega (arith, b.1, grows e.spawned))
 
       own : Was p s (act s i) e j → (i < j) × (j ≤ s.activities)
-      own (open-before o') = was i j o.present o.runs o'
-      own (begun-now q z) = (omega (arith, o.present), omega arith)
+      own (open_before o') = was i j o.present o.runs o'
+      own (begun_now q z) = (omega (arith, o.present), omega arith)
 
       go : Now s i e w → (w < j) × (j ≤ (applied s i e).activities)
       go (self q me) =
@@ -286,31 +286,31 @@ module _ (p : Program) (s : State) (i : ℕ) (e : Effect) (n : Nested p s) (o : 
 -- WHAT A COMMAND ASKS AND GIVES
 
 -- What a step makes of a hold: one that was there, or of the new clock.
-held-became : (made : ℕ) (a : Activity) (k : ℕ) (h : Hold) → Became made (hold a k) h → is_held h.registration ≡ true → Held made a h
-held-became made a k h (unchanged q) e = before k (rw q at e) (ap (λ h. h.clock) (sym q))
-held-became made a k h (vacated q) e = absurd (true-false false (rw q at e) refl)
-held-became made a k h (quieted q) e = before k (held-quiesced (hold a k).registration (rw q at e)) (ap (λ h. h.clock) (sym q))
-held-became made a k h (raised q) e = before k (held-revived (hold a k).registration (rw q at e)) (ap (λ h. h.clock) (sym q))
-held-became made a k h (begun q) e = fresh (ap (λ h. h.clock) q)
+held_became : (made : ℕ) (a : Activity) (k : ℕ) (h : Hold) → Became made (hold a k) h → is_held h.registration ≡ true → Held made a h
+held_became made a k h (unchanged q) e = before k (rw q at e) (ap (λ h. h.clock) (sym q))
+held_became made a k h (vacated q) e = absurd (true_false false (rw q at e) refl)
+held_became made a k h (quieted q) e = before k (held_quiesced (hold a k).registration (rw q at e)) (ap (λ h. h.clock) (sym q))
+held_became made a k h (raised q) e = before k (held_revived (hold a k).registration (rw q at e)) (ap (λ h. h.clock) (sym q))
+held_became made a k h (begun q) e = fresh (ap (λ h. h.clock) q)
 
 -- The same of all holds.
-pub held-turned : (made : ℕ) (a b : Activity) → Turned made a.holds b.holds → (k : ℕ) → holds b k ≡ true → Held made a (hold b k)
+pub held_turned : (made : ℕ) (a b : Activity) → Turned made a.holds b.holds → (k : ℕ) → holds b k ≡ true → Held made a (hold b k)
 unfolding Turned
-held-turned made a b t k = held-became made a k (hold b k) (t k)
+held_turned made a b t k = held_became made a k (hold b k) (t k)
 
 -- The one that a command without a fault spawns.
-pub born-after : {p : Program} {e : Env} {i : ℕ} {a : Activity} {c : Command} {x : Effect} → length a.holds ≡ 8 → faultFor p e i a c ≡ 0 → Kind p e i a c x
+pub born_after : {p : Program} {e : Env} {i : ℕ} {a : Activity} {c : Command} {x : Effect} → length a.holds ≡ 8 → fault_for p e i a c ≡ 0 → Kind p e i a c x
     → OfChild (Born p i a) x.spawned
 unfolding child
-born-after {p} {e} {i} {a} {c} n f k = born (Born p i a) (λ b m q. lending b m (rw q at f)) k
+born_after {p} {e} {i} {a} {c} n f k = born (Born p i a) (λ b m q. lending b m (rw q at f)) k
   where
-    lending : (b m : ℕ) → faultFor p e i a (Async b m) ≡ 0 → Born p i a (child i a b m)
+    lending : (b m : ℕ) → fault_for p e i a (Async b m) ≡ 0 → Born p i a (child i a b m)
     lending b m f =
         record {
           spawner = refl;
           none_open = λ j o. omega (arith, o.deeper);
           lent = λ k h.
-              let r = lent-held m 0 a.holds k h in
+              let r = lent_held m 0 a.holds k h in
               let z : 0 + k ≡ k = omega arith in
               let g = lends p e i a b m f in
               (open_none p a (g.outside k (rw z at r.1)), g.held k (omega (arith, r.0)) (rw z at r.1), r.2);

@@ -5,7 +5,7 @@ use mathlib.Core.List.{List, [], ◌∷◌}
 use mathlib.Core.Bool.{true, false, ◌&&◌, not}
 use Rattle.rules.specs.Steps.{base}
 use Rattle.rules.specs.History.{insides}
-use Rattle.rules.proofs.Opened.{rules-opened}
+use Rattle.rules.proofs.Opened.{rules_opened}
 
 -- Body 0: ASYNC 3 0, FINISH 1, END; body 1: ASYNC 2 0, END; body 2: ASYNC 3 0, END; body 3: END.
 unfoldable table : List ℕ
@@ -16,10 +16,10 @@ unfoldable order : List ℕ
 order = 0 ∷ 0 ∷ 0 ∷ 2 ∷ []
 
 told : not (insides base table order 0 1 1) && (insides base table order 0 1 2 && insides base table order 0 1 3) ≡ true
-unfolding rules-opened table order
+unfolding rules_opened table order
 told = refl
 
 -- 3 is not inside before it is spawned
 untold : insides base table (0 ∷ 0 ∷ 0 ∷ []) 0 1 3 ≡ false
-unfolding rules-opened table
+unfolding rules_opened table
 untold = refl

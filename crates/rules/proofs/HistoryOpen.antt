@@ -13,10 +13,10 @@ use Rattle.program.specs.declared.command.Command.{Command}
 use Rattle.program.specs.Bodies.{Program}
 use Rattle.rules.specs.declared.state.Frame.{Frame}
 use Rattle.rules.specs.declared.state.Activity.{Activity}
-use Rattle.rules.specs.State.{noFrame, frame, top, isEnded}
-use Rattle.rules.specs.Tree.{here, isFinish, finishes}
-use Rattle.rules.specs.History.{isFinishBody}
-use Rattle.rules.proofs.Tests.{and_intro, true-false}
+use Rattle.rules.specs.State.{no_frame, frame, top, is_ended}
+use Rattle.rules.specs.Tree.{here, is_finish, finishes}
+use Rattle.rules.specs.History.{is_finish_body}
+use Rattle.rules.proofs.Tests.{and_intro, true_false}
 use Rattle.rules.proofs.Lists.{Stored, new, old, stored}
 use Rattle.rules.proofs.Bodies.{moved}
 use Rattle.rules.proofs.WellFormedStack.{level, Stack, ran_first}
@@ -26,23 +26,23 @@ use Rattle.rules.proofs.WellFormedShape.{Motion, stays, goes, begins, repeats, r
 pub record Open (p : Program) (a : Activity) (d : ℕ) : Type 0 where
   pub above : 0 < d
   pub below : d < a.depth
-  pub by : isFinish (here p (frame a (d - 1))).command ≡ true
+  pub by : is_finish (here p (frame a (d - 1))).command ≡ true
 
 -- the test passes then
-pub open-test : {p : Program} {a : Activity} {d : ℕ} → Open p a d → isFinishBody p a d ≡ true
-unfolding isFinishBody finishes
-open-test {p} {a} {d} o = and_intro (ltb 0 d) _ (lt-ltb 0 d o.above) (and_intro (ltb d a.depth) _ (lt-ltb d a.depth o.below) o.by)
+pub open_test : {p : Program} {a : Activity} {d : ℕ} → Open p a d → is_finish_body p a d ≡ true
+unfolding is_finish_body finishes
+open_test {p} {a} {d} o = and_intro (ltb 0 d) _ (lt-ltb 0 d o.above) (and_intro (ltb d a.depth) _ (lt-ltb d a.depth o.below) o.by)
 
 -- its first number is no greater than the number of activities
-pub open-first : {p : Program} {made : ℕ} {a : Activity} {d : ℕ} → Stack p made a.depth a.frames → Open p a d → (frame a d).first ≤ made
-open-first {p} {made} {a} {d} st o = go (d - 1) (omega (arith, o.above)) o.by
+pub open_first : {p : Program} {made : ℕ} {a : Activity} {d : ℕ} → Stack p made a.depth a.frames → Open p a d → (frame a d).first ≤ made
+open_first {p} {made} {a} {d} st o = go (d - 1) (omega (arith, o.above)) o.by
   where
-    go : (k : ℕ) → d ≡ suc k → isFinish (here p (frame a k)).command ≡ true → (frame a d).first ≤ made
+    go : (k : ℕ) → d ≡ suc k → is_finish (here p (frame a k)).command ≡ true → (frame a d).first ≤ made
     go k e h = rw e (ran_first (st.stacked k (omega (arith, o.below))).by h).1
 
 -- A FINISH body of b, which was a before command o: it begins now, or it stood open.
 pub data Opened (p : Program) (made : ℕ) (o : Command) (a b : Activity) (d : ℕ) : Type 0 where
-  begun : isFinish o ≡ true → d ≡ a.depth → (frame b d).first ≡ made → Opened p made o a b d
+  begun : is_finish o ≡ true → d ≡ a.depth → (frame b d).first ≡ made → Opened p made o a b d
   before : Open p a d → (frame b d).first ≡ (frame a d).first → Opened p made o a b d
 
 -- the frames below stay
@@ -52,9 +52,9 @@ kept {p} {made} {o} {a} {b} {d} x l e f = before (record { above = x.above; belo
 
 -- a frame replaced by one with the same first number
 same_first : (fs : List Frame) (k : ℕ) (f : Frame) → f.first ≡ (level fs k).first → (d : ℕ) → (level (set fs k f) d).first ≡ (level fs d).first
-same_first fs k f e d = go (stored fs k f d noFrame)
+same_first fs k f e d = go (stored fs k f d no_frame)
   where
-    go : Stored fs k f d noFrame → (level (set fs k f) d).first ≡ (level fs d).first
+    go : Stored fs k f d no_frame → (level (set fs k f) d).first ≡ (level fs d).first
     go (new q h) = ap (λ g. g.first) h ∙ e ∙ ap (λ k. (level fs k).first) (sym q)
     go (old h) = ap (λ g. g.first) h
 
@@ -62,36 +62,36 @@ same_first fs k f e d = go (stored fs k f d noFrame)
 top_kept : {p : Program} {made : ℕ} {o : Command} {a b : Activity} {d : ℕ} (f : Frame) → f.first ≡ (top a).first → b.depth ≡ a.depth → b.frames ≡ set a.frames (a.depth - 1) f
     → Open p b d → Opened p made o a b d
 top_kept {a = a} {b} {d} f e q s x =
-    kept x (omega (arith, x.below)) (rw s (get_or-set_other a.frames (a.depth - 1) (d - 1) f noFrame (λ y. omega (arith, x.below, x.above))))
+    kept x (omega (arith, x.below)) (rw s (get_or-set_other a.frames (a.depth - 1) (d - 1) f no_frame (λ y. omega (arith, x.below, x.above))))
     (rw s (same_first a.frames (a.depth - 1) f e d))
 
 -- each motion
-pub opened : {p : Program} {made : ℕ} {a b : Activity} {d : ℕ} → length a.frames ≡ 16 → b.depth ≤ 16 → Motion p made (here p (top a)).command a b → isEnded b.status ≡ false → Open p b d
+pub opened : {p : Program} {made : ℕ} {a b : Activity} {d : ℕ} → length a.frames ≡ 16 → b.depth ≤ 16 → Motion p made (here p (top a)).command a b → is_ended b.status ≡ false → Open p b d
     → Opened p made (here p (top a)).command a b d
 opened {a = a} {b} {d} z m (stays o t e f) u x = kept x (omega (arith, x.below)) (rw f) (rw f)
 opened {p} {a = a} {b} {d} z m (goes o t e f) u x = top_kept (moved p (top a)) refl e f x
 opened {p} {made} {a} {b} {d} z m (begins g n r q t e f) u x = go (ℕ_discrete d a.depth)
   where
     low : (k : ℕ) → (k ≡ a.depth → ⊥) → frame b k ≡ frame a k
-    low k h = rw f (get_or-set_other a.frames a.depth k g noFrame h)
+    low k h = rw f (get_or-set_other a.frames a.depth k g no_frame h)
 
     go : Dec (d ≡ a.depth) → Opened p made (here p (top a)).command a b d
     go (yes h) =
-        let finish : isFinish (here p (top a)).command ≡ true = subst (λ k. isFinish (here p (frame a (k - 1))).command ≡ true) h (rw (low (d - 1) (λ y. omega (arith, x.above))) at x.by) in
-        begun finish h (rw (f, h, get_or-set_same a.frames a.depth g noFrame (omega arith)) (q finish))
+        let finish : is_finish (here p (top a)).command ≡ true = subst (λ k. is_finish (here p (frame a (k - 1))).command ≡ true) h (rw (low (d - 1) (λ y. omega (arith, x.above))) at x.by) in
+        begun finish h (rw (f, h, get_or-set_same a.frames a.depth g no_frame (omega arith)) (q finish))
     go (no h) = kept x (omega (arith, x.below)) (low (d - 1) (λ y. omega (arith, x.below, x.above))) (ap (λ g. g.first) (low d h))
 opened {a = a} {b} {d} z m (repeats o l r t e f) u x = top_kept (record { offset = 0; body = (top a).body; runs = (top a).runs - 1; first = (top a).first }) refl e f x
 opened {p} {made} {a} {b} {d} z m (returns o l t e f) u x =
     kept x (omega (arith, x.below))
-    (rw f (get_or-set_other fs (n - 1) (d - 1) (moved p (level fs (n - 1))) noFrame (λ y. omega (arith, x.below, x.above)) ∙ under (d - 1) (λ y. omega (arith, x.below))))
+    (rw f (get_or-set_other fs (n - 1) (d - 1) (moved p (level fs (n - 1))) no_frame (λ y. omega (arith, x.below, x.above)) ∙ under (d - 1) (λ y. omega (arith, x.below))))
     (rw f (same_first fs (n - 1) (moved p (level fs (n - 1))) refl d ∙ ap (λ g. g.first) (under d (λ y. omega (arith, x.below)))))
   where
     n : ℕ
     n = a.depth - 1
 
     fs : List Frame
-    fs = set a.frames n noFrame
+    fs = set a.frames n no_frame
 
     under : (k : ℕ) → (k ≡ n → ⊥) → level fs k ≡ frame a k
-    under k h = get_or-set_other a.frames n k noFrame noFrame h
-opened {a = a} {b} {d} z m (halts t e f h) u x = absurd (true-false _ t u)
+    under k h = get_or-set_other a.frames n k no_frame no_frame h
+opened {a = a} {b} {d} z m (halts t e f h) u x = absurd (true_false _ t u)

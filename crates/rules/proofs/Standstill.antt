@@ -61,9 +61,9 @@ module _ (s : View) where
   -- The invariants, with a virtual time of activities and a base of clocks.
   pub record Sound (vt base : ℕ → ℕ) : Type 0 where
     pub down : (w x : ℕ) → s.descends w x ≡ true → w < x
-    pub in-down : (w j x : ℕ) → s.inside w j x ≡ true → w < x
-    pub in-closed : (w j x y : ℕ) → y < s.n → s.inside w j x ≡ true → s.descends x y ≡ true → s.inside w j y ≡ true
-    pub ended-free : (i k : ℕ) → i < s.n → s.held i k ≡ true → s.unended i ≡ true
+    pub in_down : (w j x : ℕ) → s.inside w j x ≡ true → w < x
+    pub in_closed : (w j x y : ℕ) → y < s.n → s.inside w j x ≡ true → s.descends x y ≡ true → s.inside w j y ≡ true
+    pub ended_free : (i k : ℕ) → i < s.n → s.held i k ≡ true → s.unended i ≡ true
     pub quiesced : (i k : ℕ) → i < s.n → s.barrier i ≡ true → s.held i k ≡ true → s.live i k ≡ false
     pub time : (i k : ℕ) → i < s.n → s.held i k ≡ true → s.phase i k + base (s.clock i k) ≡ vt i
     pub contained : (w j : ℕ) → w < s.n → s.unended w ≡ true → s.opened w j → (x k y l : ℕ) → x < s.n → y < s.n
@@ -74,35 +74,35 @@ module _ (s : View) where
     runs : (x : ℕ) → U x → (x < s.n) × (s.unended x ≡ true)
     shares : (x k y l : ℕ) → U x → y < s.n → s.held x k ≡ true → s.held y l ≡ true → s.clock y l ≡ s.clock x k → U y
     descendants : (x y : ℕ) → U x → y < s.n → s.unended y ≡ true → s.descends x y ≡ true → U y
-    no-closing : (x : ℕ) → U x → AtFinish x → ⊥
+    no_closing : (x : ℕ) → U x → AtFinish x → ⊥
 
   module _ (vt base : ℕ → ℕ) (ok : Sound vt base) (all : (i : ℕ) → i < s.n → s.unended i ≡ true → Waits i) (U : ℕ → Type 0) (g : Group U) where
     -- Who waits at a barrier for another at a barrier is later than it.
     earlier : (y : ℕ) → U y → (m : AtMeeting y) → s.barrier m.other ≡ true → vt m.other < vt y
     earlier y u m b = go m.behind
       where
-        now-y : s.phase y m.own + base (s.clock y m.own) ≡ vt y
-        now-y = ok.time y m.own (g.runs y u).0 m.owned
+        now_y : s.phase y m.own + base (s.clock y m.own) ≡ vt y
+        now_y = ok.time y m.own (g.runs y u).0 m.owned
 
-        now-z : s.phase m.other m.name + base (s.clock y m.own) ≡ vt m.other
-        now-z = rw m.same at (ok.time m.other m.name m.there m.holds)
+        now_z : s.phase m.other m.name + base (s.clock y m.own) ≡ vt m.other
+        now_z = rw m.same at (ok.time m.other m.name m.there m.holds)
 
         go : (s.phase m.other m.name < s.phase y m.own) ⊎ ((s.phase m.other m.name ≡ s.phase y m.own) × (s.live m.other m.name ≡ true))
             → vt m.other < vt y
-        go (inl l) = omega (arith, now-y, now-z)
+        go (inl l) = omega (arith, now_y, now_z)
         go (inr e) = let z : ◌≡◌ {A = ℕ} 0 1 = cc (ok.quiesced m.other m.name m.there b m.holds, e.1) in omega arith
 
     -- So none waits at a barrier, by induction on the time.
-    no-meeting : (v y : ℕ) → vt y < v → U y → AtMeeting y → ⊥
-    no-meeting zero y l u m = absurd (not-suc-le-zero l)
-    no-meeting (suc v) y l u m = go (no-meeting v) (all m.other m.there (ok.ended-free m.other m.name m.there m.holds))
+    no_meeting : (v y : ℕ) → vt y < v → U y → AtMeeting y → ⊥
+    no_meeting zero y l u m = absurd (not-suc-le-zero l)
+    no_meeting (suc v) y l u m = go (no_meeting v) (all m.other m.there (ok.ended_free m.other m.name m.there m.holds))
       where
         uz : U m.other
         uz = g.shares y m.own m.other m.name u m.there m.owned m.holds m.same
 
         go : ((z : ℕ) → vt z < v → U z → AtMeeting z → ⊥) → Waits m.other → ⊥
         go ih (meets m') = ih m.other (omega (arith, earlier y u m m'.standing)) uz m'
-        go ih (closes f) = g.no-closing m.other uz f
+        go ih (closes f) = g.no_closing m.other uz f
         go ih (reads r) = let z : ◌≡◌ {A = ℕ} 0 1 = cc (r.none m.name, m.holds) in omega arith
 
     -- And there is none, by induction on the distance to the last activity.
@@ -111,8 +111,8 @@ module _ (s : View) where
     no_member (suc d) x l u = go (no_member d) (all x (g.runs x u).0 (g.runs x u).1)
       where
         go : ((y : ℕ) → s.n < y + d → U y → ⊥) → Waits x → ⊥
-        go ih (meets m) = no-meeting (suc (vt x)) x (omega arith) u m
-        go ih (closes f) = g.no-closing x u f
+        go ih (meets m) = no_meeting (suc (vt x)) x (omega arith) u m
+        go ih (closes f) = g.no_closing x u f
         go ih (reads r) =
             ih r.other (omega (arith, ok.down x r.other r.below))
             (g.descendants x r.other u r.there r.runs r.below)
@@ -132,9 +132,9 @@ module _ (s : View) where
         group : ((y : ℕ) → s.n < y + d → y < s.n → s.unended y ≡ true → AtFinish y → ⊥) → Group (Inner w f.first)
         group ih = record {
           runs = λ x i. (i.0, i.1);
-          shares = λ x k y l i b hx hy e. (b, ok.ended-free y l b hy, ok.contained w f.first h u f.level x k y l i.0 b hx hy e i.2);
-          descendants = λ x y i b v e. (b, v, ok.in-closed w f.first x y b i.2 e);
-          no-closing = λ x i c. ih x (omega (arith, ok.in-down w f.first x i.2)) i.0 i.1 c;
+          shares = λ x k y l i b hx hy e. (b, ok.ended_free y l b hy, ok.contained w f.first h u f.level x k y l i.0 b hx hy e i.2);
+          descendants = λ x y i b v e. (b, v, ok.in_closed w f.first x y b i.2 e);
+          no_closing = λ x i c. ih x (omega (arith, ok.in_down w f.first x i.2)) i.0 i.1 c;
         }
 
     -- All unended activities.
@@ -149,7 +149,7 @@ module _ (s : View) where
         group : Group Unended
         group = record {
           runs = λ x i. i;
-          shares = λ x k y l i b hx hy e. (b, ok.ended-free y l b hy);
+          shares = λ x k y l i b hx hy e. (b, ok.ended_free y l b hy);
           descendants = λ x y i b v e. (b, v);
-          no-closing = λ x i c. no_finish (suc s.n) x (omega arith) i.0 i.1 c;
+          no_closing = λ x i c. no_finish (suc s.n) x (omega arith) i.0 i.1 c;
         }

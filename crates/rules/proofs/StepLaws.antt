@@ -14,19 +14,19 @@ use Rattle.program.specs.Table.{number_of}
 use Rattle.rules.specs.declared.state.State.{State}
 use Rattle.rules.specs.declared.answer.Answer.{Answer}
 use Rattle.rules.specs.declared.answer.Answer.TheVariants.{Accepted, Refused}
-use Rattle.rules.specs.Search.{bitsBelow}
+use Rattle.rules.specs.Search.{bits_below}
 use Rattle.rules.specs.State.{ended}
 use Rattle.rules.specs.Faults.{bit}
 use Rattle.rules.specs.Effects.{applied}
-use Rattle.rules.specs.WellFormed.{wellFormed}
-use Rattle.rules.specs.Steps.{Limits, waits, effect, refusal, exceeds, stepped, advance, unfit, stepWith, step, canStep, ready}
-use Rattle.rules.specs.Runs.{isAccepted}
-use Rattle.rules.proofs.Tests.{true-false, decide}
+use Rattle.rules.specs.WellFormed.{well_formed}
+use Rattle.rules.specs.Steps.{Limits, waits, effect, refusal, exceeds, stepped, advance, unfit, step_with, step, can_step, ready}
+use Rattle.rules.specs.Runs.{is_accepted}
+use Rattle.rules.proofs.Tests.{true_false, decide}
 use Rattle.rules.proofs.Bits.{bit_at, bit_past}
 use Rattle.rules.proofs.WellFormedFacts.{Facts, facts}
 
 -- an accepted table and a well-formed state
-pub fit : (l : Limits) (t : List ℕ) (s : State) → number_of l.work t ≡ 0 → wellFormed l.phase (program_of t) s ≡ true → unfit l (number_of l.work t) (program_of t) s ≡ 0
+pub fit : (l : Limits) (t : List ℕ) (s : State) → number_of l.work t ≡ 0 → well_formed l.phase (program_of t) s ≡ true → unfit l (number_of l.work t) (program_of t) s ≡ 0
 unfolding unfit
 fit l t s n w = rw (n, w)
 
@@ -40,13 +40,13 @@ module _ (l : Limits) (t : List ℕ) (s : State) (i : ℕ) where
     unfits : (n : ℕ) → unfit l (number_of l.work t) p s ≡ n → (n ≡ 0 → ⊥) → step l t s i ≡ stepped (Refused n) s → Outcome
     refuses : (n : ℕ) → refusal p s i ≡ n → (n ≡ 0 → ⊥) → step l t s i ≡ stepped (Refused n) s → Outcome
     overflows : refusal p s i ≡ 0 → exceeds l p s (effect p s i) ≡ true → step l t s i ≡ stepped (Refused 17) s → Outcome
-    takes : number_of l.work t ≡ 0 → wellFormed l.phase p s ≡ true → refusal p s i ≡ 0 → exceeds l p s (effect p s i) ≡ false
+    takes : number_of l.work t ≡ 0 → well_formed l.phase p s ≡ true → refusal p s i ≡ 0 → exceeds l p s (effect p s i) ≡ false
         → step l t s i ≡ stepped (Accepted (effect p s i).self.status) (applied s i (effect p s i)) → Outcome
 
   -- no number 1 to 13
-  fit_parts : unfit l (number_of l.work t) p s ≡ 0 → (number_of l.work t ≡ 0) × (wellFormed l.phase p s ≡ true)
+  fit_parts : unfit l (number_of l.work t) p s ≡ 0 → (number_of l.work t ≡ 0) × (well_formed l.phase p s ≡ true)
   unfolding unfit
-  fit_parts e = go (number_of l.work t) (wellFormed l.phase p s) e (decide (eqb (number_of l.work t) 0))
+  fit_parts e = go (number_of l.work t) (well_formed l.phase p s) e (decide (eqb (number_of l.work t) 0))
     where
       go : (n : ℕ) (w : Bool) → cond (eqb n 0) (cond w 0 13) n ≡ 0 → (eqb n 0 ≡ true) ⊎ (eqb n 0 ≡ false) → (n ≡ 0) × (w ≡ true)
       go n true e (inl h) = (eqb-true n 0 h, refl)
@@ -55,7 +55,7 @@ module _ (l : Limits) (t : List ℕ) (s : State) (i : ℕ) where
 
   -- each call is one of the four
   pub outcome : Outcome
-  unfolding step stepWith advance
+  unfolding step step_with advance
   outcome =
       go (eqb (unfit l (number_of l.work t) p s) 0) refl (eqb (refusal p s i) 0) refl (exceeds l p s (effect p s i)) refl refl
     where
@@ -70,8 +70,8 @@ module _ (l : Limits) (t : List ℕ) (s : State) (i : ℕ) where
       go true a true b false c e = let q = fit_parts (eqb-true _ 0 a) in takes q.0 q.1 (eqb-true _ 0 b) c e
 
   -- a refused step returns the state it was handed
-  pub step-refused : (n : ℕ) → (step l t s i).answer ≡ Refused n → (step l t s i).state ≡ s
-  step-refused n e = go outcome
+  pub step_refused : (n : ℕ) → (step l t s i).answer ≡ Refused n → (step l t s i).state ≡ s
+  step_refused n e = go outcome
     where
       go : Outcome → (step l t s i).state ≡ s
       go (unfits m q h d) = ap (λ x. x.state) d
@@ -79,33 +79,33 @@ module _ (l : Limits) (t : List ℕ) (s : State) (i : ℕ) where
       go (overflows q x d) = ap (λ x. x.state) d
       go (takes a b c x d) =
           let g : Accepted (effect p s i).self.status ≡ Refused n = sym (ap (λ x. x.answer) d) ∙ e in
-          absurd (true-false true refl (ap isAccepted g))
+          absurd (true_false true refl (ap is_accepted g))
 
   -- an accepted step raises the steps by one
-  pub step-accepted : isAccepted (step l t s i).answer ≡ true → (step l t s i).state.steps ≡ s.steps + 1
+  pub step_accepted : is_accepted (step l t s i).answer ≡ true → (step l t s i).state.steps ≡ s.steps + 1
   unfolding applied
-  step-accepted e = go outcome
+  step_accepted e = go outcome
     where
       go : Outcome → (step l t s i).state.steps ≡ s.steps + 1
-      go (unfits m q h d) = absurd (true-false false (rw d at e) refl)
-      go (refuses m q h d) = absurd (true-false false (rw d at e) refl)
-      go (overflows q x d) = absurd (true-false false (rw d at e) refl)
+      go (unfits m q h d) = absurd (true_false false (rw d at e) refl)
+      go (refuses m q h d) = absurd (true_false false (rw d at e) refl)
+      go (overflows q x d) = absurd (true_false false (rw d at e) refl)
       go (takes a b c x d) = ap (λ x. x.state.steps) d
 
 -- Not 14 to 16: a step or a fault, or 17.
-abbrev pub mayGo : Answer → Bool
-mayGo (Accepted status) = true
-mayGo (Refused n) = eqb n 17
+abbrev pub may_go : Answer → Bool
+may_go (Accepted status) = true
+may_go (Refused n) = eqb n 17
 
 -- who has not been spawned may not step
-refusal-past : (p : Program) (s : State) (i : ℕ) → s.activities ≤ i → refusal p s i ≡ 14
+refusal_past : (p : Program) (s : State) (i : ℕ) → s.activities ≤ i → refusal p s i ≡ 14
 unfolding refusal
-refusal-past p s i h = rw (le-ltb i s.activities h)
+refusal_past p s i h = rw (le-ltb i s.activities h)
 
 -- the number is one of 14 to 16
-pub refusal-number : (p : Program) (s : State) (i : ℕ) → (refusal p s i ≡ 0 → ⊥) → (14 ≤ refusal p s i) × (refusal p s i ≤ 16)
+pub refusal_number : (p : Program) (s : State) (i : ℕ) → (refusal p s i ≡ 0 → ⊥) → (14 ≤ refusal p s i) × (refusal p s i ≤ 16)
 unfolding refusal
-refusal-number p s i = go (ltb i s.activities) (ended s i) (waits p s i)
+refusal_number p s i = go (ltb i s.activities) (ended s i) (waits p s i)
   where
     go : (x y z : Bool) → (◌≡◌ {A = ℕ} (cond x (cond y 15 (cond z 16 0)) 14) 0 → ⊥) → (14 ≤ cond x (cond y 15 (cond z 16 0)) 14) × (cond x (cond y 15 (cond z 16 0)) 14 ≤ 16)
     go true true z h = (omega arith, omega arith)
@@ -114,28 +114,28 @@ refusal-number p s i = go (ltb i s.activities) (ended s i) (waits p s i)
     go false y z h = (omega arith, omega arith)
 
 -- step and ready set agree on 14 to 16
-module _ (l : Limits) (t : List ℕ) (s : State) (number : number_of l.work t ≡ 0) (formed : wellFormed l.phase (program_of t) s ≡ true) where
+module _ (l : Limits) (t : List ℕ) (s : State) (number : number_of l.work t ≡ 0) (formed : well_formed l.phase (program_of t) s ≡ true) where
   -- a bit of the ready set tells who can step
-  pub ready-bit : (i : ℕ) → bit (ready l t s).set i ≡ canStep (program_of t) s i
-  unfolding ready canStep
-  ready-bit i = rw (fit l t s number formed) (go (dec_lt i 64))
+  pub ready_bit : (i : ℕ) → bit (ready l t s).set i ≡ can_step (program_of t) s i
+  unfolding ready can_step
+  ready_bit i = rw (fit l t s number formed) (go (dec_lt i 64))
     where
       f : Facts l.phase (program_of t) s
       f = facts l.phase (program_of t) s formed
 
-      go : Dec (i < 64) → bit (bitsBelow 64 (canStep (program_of t) s)) i ≡ eqb (refusal (program_of t) s i) 0
-      go (yes h) = bit_at 64 (canStep (program_of t) s) i h
-      go (no h) = bit_past 64 (canStep (program_of t) s) i (omega arith) ∙ rw (refusal-past (program_of t) s i (omega (arith, f.acts64)))
+      go : Dec (i < 64) → bit (bits_below 64 (can_step (program_of t) s)) i ≡ eqb (refusal (program_of t) s i) 0
+      go (yes h) = bit_at 64 (can_step (program_of t) s) i h
+      go (no h) = bit_past 64 (can_step (program_of t) s) i (omega arith) ∙ rw (refusal_past (program_of t) s i (omega (arith, f.acts64)))
 
   -- that is, whom the step does not turn down with 14 to 16
-  pub ready-agrees : (i : ℕ) → bit (ready l t s).set i ≡ mayGo (step l t s i).answer
-  unfolding canStep
-  ready-agrees i = ready-bit i ∙ go (outcome l t s i)
+  pub ready_agrees : (i : ℕ) → bit (ready l t s).set i ≡ may_go (step l t s i).answer
+  unfolding can_step
+  ready_agrees i = ready_bit i ∙ go (outcome l t s i)
     where
-      go : Outcome l t s i → eqb (refusal (program_of t) s i) 0 ≡ mayGo (step l t s i).answer
+      go : Outcome l t s i → eqb (refusal (program_of t) s i) 0 ≡ may_go (step l t s i).answer
       go (unfits n q h d) = absurd (h (sym q ∙ fit l t s number formed))
       go (refuses n q h d) =
-          let r = refusal-number (program_of t) s i (λ e. h (sym q ∙ e)) in
+          let r = refusal_number (program_of t) s i (λ e. h (sym q ∙ e)) in
           rw (d, q, ne_eqb n 0 h, ne_eqb n 17 (λ e. omega arith))
       go (overflows q x d) = rw (d, q)
       go (takes a b c x d) = rw (d, c)

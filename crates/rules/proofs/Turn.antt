@@ -10,8 +10,8 @@ use borrow.Author.Tests.{ltb-true, lt-ltb, eq-eqb, ne_eqb}
 use Rattle.program.specs.Bodies.{Program}
 use Rattle.rules.specs.declared.state.Status.TheVariants.{Faulted}
 use Rattle.rules.specs.declared.state.State.{State}
-use Rattle.rules.specs.State.{act, ended, faultOf}
-use Rattle.rules.specs.Effects.{Effect, envOf, effect_of, failing, applied}
+use Rattle.rules.specs.State.{act, ended, fault_of}
+use Rattle.rules.specs.Effects.{Effect, env_of, effect_of, failing, applied}
 use Rattle.rules.specs.Steps.{at, breach, fault, waits, effect, refusal}
 use Rattle.rules.specs.Faults.{spoilt}
 
@@ -33,9 +33,9 @@ turn p s i e = go (ltb i s.activities) refl (ended s i) refl (waits p s i) refl 
     go false h y m z w e = absurd (omega arith)
 
 -- And back.
-pub turn-back : (p : Program) (s : State) (i : ℕ) → Turn p s i → refusal p s i ≡ 0
+pub turn_back : (p : Program) (s : State) (i : ℕ) → Turn p s i → refusal p s i ≡ 0
 unfolding refusal
-turn-back p s i t = rw (lt-ltb i s.activities t.spawned, t.unended, t.moves)
+turn_back p s i t = rw (lt-ltb i s.activities t.spawned, t.unended, t.moves)
 
 -- No fault: no breach, and nothing that the END of a FINISH body passes on.
 pub faultless : (p : Program) (s : State) (i : ℕ) → fault p s i ≡ 0 → (breach p s i ≡ 0) × (spoilt p s i (act s i) (at p s i).command ≡ false)
@@ -47,9 +47,9 @@ faultless p s i = go (spoilt p s i (act s i) (at p s i).command)
     go false e = (e, refl)
 
 -- A fault is one of the two.
-pub fault-ways : (p : Program) (s : State) (i : ℕ) → (fault p s i ≡ 0 → ⊥) → (breach p s i ≡ 0 → ⊥) ⊎ (spoilt p s i (act s i) (at p s i).command ≡ true)
+pub fault_ways : (p : Program) (s : State) (i : ℕ) → (fault p s i ≡ 0 → ⊥) → (breach p s i ≡ 0 → ⊥) ⊎ (spoilt p s i (act s i) (at p s i).command ≡ true)
 unfolding fault
-fault-ways p s i = go (spoilt p s i (act s i) (at p s i).command)
+fault_ways p s i = go (spoilt p s i (act s i) (at p s i).command)
   where
     go : (b : Bool) → (cond b 8 (breach p s i) ≡ 0 → ⊥) → (breach p s i ≡ 0 → ⊥) ⊎ (b ≡ true)
     go true f = inr refl
@@ -57,29 +57,29 @@ fault-ways p s i = go (spoilt p s i (act s i) (at p s i).command)
 
 -- The effect of the command.
 abbrev pub doing : Program → State → ℕ → Effect
-doing p s i = effect_of p (envOf s) i (act s i) (at p s i).command (at p s i).inner
+doing p s i = effect_of p (env_of s) i (act s i) (at p s i).command (at p s i).inner
 
 -- The effect of a fault.
 abbrev pub failed : Program → State → ℕ → Effect
-failed p s i = failing (act s i) (Faulted (faultOf (fault p s i)))
+failed p s i = failing (act s i) (Faulted (fault_of (fault p s i)))
 
 -- No fault: the command's.
-pub effect-doing : (p : Program) (s : State) (i : ℕ) → fault p s i ≡ 0 → effect p s i ≡ doing p s i
+pub effect_doing : (p : Program) (s : State) (i : ℕ) → fault p s i ≡ 0 → effect p s i ≡ doing p s i
 unfolding effect
-effect-doing p s i e = rw (eq-eqb _ _ e)
+effect_doing p s i e = rw (eq-eqb _ _ e)
 
 -- A fault: that.
-pub effect-failed : (p : Program) (s : State) (i : ℕ) → (fault p s i ≡ 0 → ⊥) → effect p s i ≡ failed p s i
+pub effect_failed : (p : Program) (s : State) (i : ℕ) → (fault p s i ≡ 0 → ⊥) → effect p s i ≡ failed p s i
 unfolding effect
-effect-failed p s i e = rw (ne_eqb _ _ e)
+effect_failed p s i e = rw (ne_eqb _ _ e)
 
 -- So a fact of both is one of the step's effect.
-pub by-fault : (p : Program) (s : State) (i : ℕ) (P : Effect → Type 0) → (fault p s i ≡ 0 → P (doing p s i)) → ((fault p s i ≡ 0 → ⊥) → P (failed p s i)) → P (effect p s i)
-by-fault p s i P f g = go (ℕ_discrete (fault p s i) 0)
+pub by_fault : (p : Program) (s : State) (i : ℕ) (P : Effect → Type 0) → (fault p s i ≡ 0 → P (doing p s i)) → ((fault p s i ≡ 0 → ⊥) → P (failed p s i)) → P (effect p s i)
+by_fault p s i P f g = go (ℕ_discrete (fault p s i) 0)
   where
     go : Dec (fault p s i ≡ 0) → P (effect p s i)
-    go (yes e) = rw (effect-doing p s i e) (f e)
-    go (no e) = rw (effect-failed p s i e) (g e)
+    go (yes e) = rw (effect_doing p s i e) (f e)
+    go (no e) = rw (effect_failed p s i e) (g e)
 
 -- The state after the step.
 abbrev pub after : Program → State → ℕ → State

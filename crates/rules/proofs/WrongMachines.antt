@@ -6,16 +6,16 @@ use mathlib.Core.Bool.{cond}
 use mathlib.Core.Path.{◌≡◌, ap}
 use lib.Dec.{eqb}
 use Rattle.program.specs.Bodies.{program_of}
-use Rattle.program.specs.Count.{workOf}
-use Rattle.program.specs.Table.{workLimit, number_of}
+use Rattle.program.specs.Count.{work_of}
+use Rattle.program.specs.Table.{work_limit, number_of}
 use Rattle.rules.specs.declared.state.Status.TheVariants.{Running}
 use Rattle.rules.specs.declared.state.State.{State}
 use Rattle.rules.specs.declared.answer.Answer.TheVariants.{Accepted, Refused}
 use Rattle.rules.specs.declared.answer.Stepped.{Stepped}
-use Rattle.rules.specs.State.{answerNumber}
-use Rattle.rules.specs.Steps.{base, startState, stepped, step, ready}
+use Rattle.rules.specs.State.{answer_number}
+use Rattle.rules.specs.Steps.{base, start_state, stepped, step, ready}
 use Rattle.rules.specs.Runs.{run, answers, taken}
-use Rattle.rules.specs.Written.{withCounts, pair}
+use Rattle.rules.specs.Written.{with_counts, pair}
 use Rattle.rules.proofs.Cases.{opened}
 
 -- Two machines that step alike.
@@ -27,19 +27,19 @@ unfoldable pub hasty : List ℕ → State → ℕ → Stepped
 hasty t s i =
     let through = run base t (0 ∷ 0 ∷ 0 ∷ 1 ∷ 0 ∷ 0 ∷ 1 ∷ 1 ∷ []) in
     let s' = cond (eqb s.steps 0) through s in
-    stepped (Accepted Running) (withCounts (s.steps + 1) s'.activities s'.clocks s'.accumulators s')
+    stepped (Accepted Running) (with_counts (s.steps + 1) s'.activities s'.clocks s'.accumulators s')
 
-pub hasty-differs : Alike hasty (step base) → ⊥
+pub hasty_differs : Alike hasty (step base) → ⊥
 unfolding opened hasty
-hasty-differs h = let e : ◌≡◌ {A = ℕ} 2 1 = ap (λ (r : Stepped). r.state.activities) (h pair startState 0) in omega arith
+hasty_differs h = let e : ◌≡◌ {A = ℕ} 2 1 = ap (λ (r : Stepped). r.state.activities) (h pair start_state 0) in omega arith
 
 -- "a work number invented to match the run": of the run in which main alone faults F3 in step 3
 unfoldable pub invented : List ℕ → List ℕ → ℕ
 invented t order = taken (answers base t order)
 
-pub invented-differs : ((t order : List ℕ) → invented t order ≡ workOf (program_of t)) → ⊥
+pub invented_differs : ((t order : List ℕ) → invented t order ≡ work_of (program_of t)) → ⊥
 unfolding opened invented
-invented-differs h =
+invented_differs h =
     let e : ◌≡◌ {A = ℕ} 3 8 = h (0x03 ∷ 0x02 ∷ 0x00 ∷ 0x06 ∷ 0x01 ∷ 0x00 ∷ 0x05 ∷ 0x02 ∷ 0x01 ∷ 0x00 ∷ 0x01 ∷ 0x00 ∷ []) (0 ∷ 0 ∷ 0 ∷ []) in
     omega arith
 
@@ -47,15 +47,15 @@ invented-differs h =
 unfoldable pub waiting : List ℕ → State → ℕ → Stepped
 waiting t s i = stepped (Refused 16) s
 
-pub waiting-differs : Alike waiting (step base) → ⊥
+pub waiting_differs : Alike waiting (step base) → ⊥
 unfolding opened waiting
-waiting-differs h = let e : ◌≡◌ {A = ℕ} 16 0 = ap (λ (r : Stepped). answerNumber r.answer) (h pair startState 0) in omega arith
+waiting_differs h = let e : ◌≡◌ {A = ℕ} 16 0 = ap (λ (r : Stepped). answer_number r.answer) (h pair start_state 0) in omega arith
 
 -- "one ready set for every state"
-pub constant-differs : (set : ℕ) → ((t : List ℕ) (s : State) → set ≡ (ready base t s).set) → ⊥
+pub constant_differs : (set : ℕ) → ((t : List ℕ) (s : State) → set ≡ (ready base t s).set) → ⊥
 unfolding opened
-constant-differs set h =
-    let one : set ≡ 1 = h (0x01 ∷ 0x00 ∷ []) startState in
+constant_differs set h =
+    let one : set ≡ 1 = h (0x01 ∷ 0x00 ∷ []) start_state in
     let none : set ≡ 0 = h (0x01 ∷ 0x00 ∷ []) (run base (0x01 ∷ 0x00 ∷ []) (0 ∷ [])) in
     omega arith
 
@@ -63,11 +63,11 @@ constant-differs set h =
 unfoldable pub idle : List ℕ → State → ℕ → Stepped
 idle t s i = stepped (step base t s i).answer s
 
-pub idle-differs : Alike idle (step base) → ⊥
+pub idle_differs : Alike idle (step base) → ⊥
 unfolding opened idle
-idle-differs h = let e : ◌≡◌ {A = ℕ} 0 1 = ap (λ (r : Stepped). r.state.steps) (h pair startState 0) in omega arith
+idle_differs h = let e : ◌≡◌ {A = ℕ} 0 1 = ap (λ (r : Stepped). r.state.steps) (h pair start_state 0) in omega arith
 
 -- "a reader that turns down each table"
-pub refusing-differs : (reader : List ℕ → ℕ) → ((t : List ℕ) → reader t ≡ 0 → ⊥) → ((t : List ℕ) → reader t ≡ number_of workLimit t) → ⊥
+pub refusing_differs : (reader : List ℕ → ℕ) → ((t : List ℕ) → reader t ≡ 0 → ⊥) → ((t : List ℕ) → reader t ≡ number_of work_limit t) → ⊥
 unfolding opened
-refusing-differs reader never h = let e : reader (0x01 ∷ 0x00 ∷ []) ≡ 0 = h (0x01 ∷ 0x00 ∷ []) in never (0x01 ∷ 0x00 ∷ []) e
+refusing_differs reader never h = let e : reader (0x01 ∷ 0x00 ∷ []) ≡ 0 = h (0x01 ∷ 0x00 ∷ []) in never (0x01 ∷ 0x00 ∷ []) e

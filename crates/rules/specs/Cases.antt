@@ -1,17 +1,17 @@
 -- The cases of document 01 marked P, and cases of our own, each a table with an order and what is expected.
 use Rattle.std.specs.Prelude.{ℕ, ◌+◌, List, [], ◌∷◌, map, Bool, true, false, cond, ◌||◌, ◌&&◌, ltb, eqb}
 use Rattle.program.specs.Bodies.{Program, program_of}
-use Rattle.program.specs.Count.{workOf, activitiesOf}
-use Rattle.program.specs.Same.{sameBool, same_list, same_lists}
-use Rattle.rules.specs.Search.{countBelow}
+use Rattle.program.specs.Count.{work_of, activities_of}
+use Rattle.program.specs.Same.{same_bool, same_list, same_lists}
+use Rattle.rules.specs.Search.{count_below}
 use Rattle.rules.specs.declared.state.Fault.TheVariants.{F1, F2, F3, F4, F5, F6, F7, F8}
 use Rattle.rules.specs.declared.state.Registration.TheVariants.{Free, Live, Quiesced}
 use Rattle.rules.specs.declared.state.Operator.TheVariants.{Sum, Minimum, Maximum}
-use Rattle.rules.specs.State.{faultNumber, faultOf, operatorNumber, operatorOf, registrationNumber, answerNumber, ended}
+use Rattle.rules.specs.State.{fault_number, fault_of, operator_number, operator_of, registration_number, answer_number, ended}
 use Rattle.rules.specs.declared.state.State.{State}
-use Rattle.rules.specs.Steps.{base, startState, start, advance}
+use Rattle.rules.specs.Steps.{base, start_state, start, advance}
 use Rattle.rules.specs.declared.answer.Answer.{Answer}
-use Rattle.rules.specs.Runs.{run, answers, awaiteds, isAccepted, taken, someFault, finished}
+use Rattle.rules.specs.Runs.{run, answers, awaiteds, is_accepted, taken, some_fault, finished}
 
 -- The start's answer; the work and the activities counted; the steps' answers; at the end the steps taken, the activities ended and those spawned.
 pub record Expected : Type 0 where
@@ -28,13 +28,13 @@ pub record Case : Type 0 where
   pub order : List ℕ
   pub expected : Expected
 
-abbrev pub turnedDown : List ℕ → ℕ → Case
-turnedDown table number = record { table = table; order = []; expected = record { number = number; work = 0; activities = 0; answers = []; taken = 0; ended = 0; spawned = 0 } }
+abbrev pub turned_down : List ℕ → ℕ → Case
+turned_down table number = record { table = table; order = []; expected = record { number = number; work = 0; activities = 0; answers = []; taken = 0; ended = 0; spawned = 0 } }
 
 -- Whether an answer of the list is a fault's.
-unfoldable pub hasFault : List ℕ → Bool
-hasFault [] = false
-hasFault (n ∷ ns) = let r = hasFault ns in ltb 100 n || r
+unfoldable pub has_fault : List ℕ → Bool
+has_fault [] = false
+has_fault (n ∷ ns) = let r = has_fault ns in ltb 100 n || r
 
 -- What is expected of an accepted table is what the rules give; of another, its number.
 unfoldable pub accepts : Case → Bool
@@ -43,33 +43,33 @@ accepts c =
     let p = program_of c.table in
     let got = answers base c.table c.order in
     let last = run base c.table c.order in
-    eqb (workOf p) e.work
-    && (eqb (activitiesOf p) e.activities
-    && (same_list (map answerNumber got) e.answers
+    eqb (work_of p) e.work
+    && (eqb (activities_of p) e.activities
+    && (same_list (map answer_number got) e.answers
     && (eqb last.steps e.taken
     && (eqb (taken got) e.taken
-    && (sameBool (someFault got) (hasFault e.answers)
-    && (eqb (countBelow last.activities (ended last)) e.ended
-    && (eqb last.activities e.spawned && sameBool (finished last) (eqb e.ended e.spawned))))))))
+    && (same_bool (some_fault got) (has_fault e.answers)
+    && (eqb (count_below last.activities (ended last)) e.ended
+    && (eqb last.activities e.spawned && same_bool (finished last) (eqb e.ended e.spawned))))))))
 
-unfoldable pub holdsFor : Case → Bool
-holdsFor c =
-    let n = answerNumber (start base c.table).answer in
+unfoldable pub holds_for : Case → Bool
+holds_for c =
+    let n = answer_number (start base c.table).answer in
     let whole = accepts c in
     eqb n c.expected.number && cond (eqb n 0) whole true
 
-unfoldable pub allHold : List Case → Bool
-allHold [] = true
-allHold (c ∷ cs) = let r = allHold cs in holdsFor c && r
+unfoldable pub all_hold : List Case → Bool
+all_hold [] = true
+all_hold (c ∷ cs) = let r = all_hold cs in holds_for c && r
 
 -- The numbers of the enums: of each fault, operator and registration, and there and back for those that have both.
 unfoldable pub numbered : Bool
 numbered =
-    same_list (map faultNumber (F1 ∷ F2 ∷ F3 ∷ F4 ∷ F5 ∷ F6 ∷ F7 ∷ F8 ∷ [])) (1 ∷ 2 ∷ 3 ∷ 4 ∷ 5 ∷ 6 ∷ 7 ∷ 8 ∷ [])
-    && (same_list (map (λ n. faultNumber (faultOf n)) (1 ∷ 2 ∷ 3 ∷ 4 ∷ 5 ∷ 6 ∷ 7 ∷ 8 ∷ [])) (1 ∷ 2 ∷ 3 ∷ 4 ∷ 5 ∷ 6 ∷ 7 ∷ 8 ∷ [])
-    && (same_list (map operatorNumber (Sum ∷ Minimum ∷ Maximum ∷ [])) (0 ∷ 1 ∷ 2 ∷ [])
-    && (same_list (map (λ o. operatorNumber (operatorOf o)) (0 ∷ 1 ∷ 2 ∷ [])) (0 ∷ 1 ∷ 2 ∷ [])
-    && same_list (map registrationNumber (Free ∷ Live ∷ Quiesced ∷ [])) (0 ∷ 1 ∷ 2 ∷ []))))
+    same_list (map fault_number (F1 ∷ F2 ∷ F3 ∷ F4 ∷ F5 ∷ F6 ∷ F7 ∷ F8 ∷ [])) (1 ∷ 2 ∷ 3 ∷ 4 ∷ 5 ∷ 6 ∷ 7 ∷ 8 ∷ [])
+    && (same_list (map (λ n. fault_number (fault_of n)) (1 ∷ 2 ∷ 3 ∷ 4 ∷ 5 ∷ 6 ∷ 7 ∷ 8 ∷ [])) (1 ∷ 2 ∷ 3 ∷ 4 ∷ 5 ∷ 6 ∷ 7 ∷ 8 ∷ [])
+    && (same_list (map operator_number (Sum ∷ Minimum ∷ Maximum ∷ [])) (0 ∷ 1 ∷ 2 ∷ [])
+    && (same_list (map (λ o. operator_number (operator_of o)) (0 ∷ 1 ∷ 2 ∷ [])) (0 ∷ 1 ∷ 2 ∷ [])
+    && same_list (map registration_number (Free ∷ Live ∷ Quiesced ∷ [])) (0 ∷ 1 ∷ 2 ∷ []))))
 
 -- The lines of a walk: the activity, the answer and the steps taken so far, `taken` of them before the first; "a walk line with 16 now ends with a blank and this
 -- number".
@@ -78,8 +78,8 @@ lines_from taken [] more numbers = []
 lines_from taken (i ∷ order) [] numbers = []
 lines_from taken (i ∷ order) (a ∷ more) [] = []
 lines_from taken (i ∷ order) (a ∷ more) (n ∷ numbers) =
-    let next = taken + cond (isAccepted a) 1 0 in
-    (i ∷ answerNumber a ∷ next ∷ cond (eqb (answerNumber a) 16) (n ∷ []) []) ∷ lines_from next order more numbers
+    let next = taken + cond (is_accepted a) 1 0 in
+    (i ∷ answer_number a ∷ next ∷ cond (eqb (answer_number a) 16) (n ∷ []) []) ∷ lines_from next order more numbers
 
 -- The walk that document 01 prints, line by line; "so document 01's line 4 becomes `4 0 16 3 1`".
 unfoldable pub printed : List (List ℕ)
@@ -96,39 +96,39 @@ printed =
     ∷ (0 ∷ 15 ∷ 8 ∷ [])
     ∷ []
 
-abbrev pub walkTable : List ℕ
-walkTable = 0x02 ∷ 0x02 ∷ 0x00 ∷ 0x05 ∷ 0x01 ∷ 0x01 ∷ 0x01 ∷ 0x00 ∷ 0x01 ∷ 0x00 ∷ []
+abbrev pub walk_table : List ℕ
+walk_table = 0x02 ∷ 0x02 ∷ 0x00 ∷ 0x05 ∷ 0x01 ∷ 0x01 ∷ 0x01 ∷ 0x00 ∷ 0x01 ∷ 0x00 ∷ []
 
-abbrev pub walkOrder : List ℕ
-walkOrder = 0 ∷ 0 ∷ 0 ∷ 0 ∷ 1 ∷ 0 ∷ 0 ∷ 1 ∷ 1 ∷ 0 ∷ []
+abbrev pub walk_order : List ℕ
+walk_order = 0 ∷ 0 ∷ 0 ∷ 0 ∷ 1 ∷ 0 ∷ 0 ∷ 1 ∷ 1 ∷ 0 ∷ []
 
-unfoldable pub walkPrints : Bool
-walkPrints = same_lists (lines_from 0 walkOrder (answers base walkTable walkOrder) (awaiteds base walkTable walkOrder)) printed
+unfoldable pub walk_prints : Bool
+walk_prints = same_lists (lines_from 0 walk_order (answers base walk_table walk_order) (awaiteds base walk_table walk_order)) printed
 
 -- MARKED P: "document 01's case 01 11 now gives 4, and 01 13 joins the P cases with 3"
 
 unfoldable pub marked : List Case
 marked =
     record {
-      table = walkTable;
-      order = walkOrder;
+      table = walk_table;
+      order = walk_order;
       expected = record { number = 0; work = 8; activities = 2; answers = 0 ∷ 0 ∷ 0 ∷ 16 ∷ 0 ∷ 0 ∷ 0 ∷ 0 ∷ 0 ∷ 15 ∷ []; taken = 8; ended = 2; spawned = 2 };
     }
     ∷ record { table = 0x01 ∷ 0x00 ∷ []; order = 0 ∷ []; expected = record { number = 0; work = 1; activities = 1; answers = 0 ∷ []; taken = 1; ended = 1; spawned = 1 } }
-    ∷ turnedDown (0x00 ∷ 0x00 ∷ []) 2
-    ∷ turnedDown (0x01 ∷ 0x11 ∷ []) 4
-    ∷ turnedDown (0x01 ∷ 0x13 ∷ []) 3
-    ∷ turnedDown (0x01 ∷ 0x01 ∷ []) 4
-    ∷ turnedDown (0x01 ∷ 0x02 ∷ 0x08 ∷ 0x00 ∷ []) 5
-    ∷ turnedDown (0x01 ∷ 0x06 ∷ 0x00 ∷ 0x00 ∷ []) 6
-    ∷ turnedDown (0x01 ∷ 0x10 ∷ 0x01 ∷ 0x01 ∷ 0x00 ∷ []) 7
-    ∷ turnedDown (0x01 ∷ 0x00 ∷ 0x00 ∷ []) 8
+    ∷ turned_down (0x00 ∷ 0x00 ∷ []) 2
+    ∷ turned_down (0x01 ∷ 0x11 ∷ []) 4
+    ∷ turned_down (0x01 ∷ 0x13 ∷ []) 3
+    ∷ turned_down (0x01 ∷ 0x01 ∷ []) 4
+    ∷ turned_down (0x01 ∷ 0x02 ∷ 0x08 ∷ 0x00 ∷ []) 5
+    ∷ turned_down (0x01 ∷ 0x06 ∷ 0x00 ∷ 0x00 ∷ []) 6
+    ∷ turned_down (0x01 ∷ 0x10 ∷ 0x01 ∷ 0x01 ∷ 0x00 ∷ []) 7
+    ∷ turned_down (0x01 ∷ 0x00 ∷ 0x00 ∷ []) 8
     ∷ record {
       table = 0x03 ∷ 0x07 ∷ 0x3F ∷ 0x01 ∷ 0x00 ∷ 0x05 ∷ 0x02 ∷ 0x00 ∷ 0x00 ∷ 0x00 ∷ [];
       order = [];
       expected = record { number = 0; work = 191; activities = 64; answers = []; taken = 0; ended = 0; spawned = 1 };
     }
-    ∷ turnedDown (0x03 ∷ 0x07 ∷ 0x40 ∷ 0x01 ∷ 0x00 ∷ 0x05 ∷ 0x02 ∷ 0x00 ∷ 0x00 ∷ 0x00 ∷ []) 9
+    ∷ turned_down (0x03 ∷ 0x07 ∷ 0x40 ∷ 0x01 ∷ 0x00 ∷ 0x05 ∷ 0x02 ∷ 0x00 ∷ 0x00 ∷ 0x00 ∷ []) 9
     ∷ record {
       table = 0x03 ∷ 0x02 ∷ 0x00 ∷ 0x06 ∷ 0x01 ∷ 0x00 ∷ 0x05 ∷ 0x02 ∷ 0x01 ∷ 0x00 ∷ 0x01 ∷ 0x00 ∷ [];
       order = 0 ∷ 0 ∷ 0 ∷ [];
@@ -161,22 +161,22 @@ pub record Answered : Type 0 where
   pub answers : List ℕ
 
 -- The steps of a run without the test of number 13, which the cases marked P take in full: the answers, and the state at the end.
-unfoldable pub answersBy : Program → State → List ℕ → List ℕ
-answersBy p s [] = []
-answersBy p s (i ∷ order) = let r = advance base p s i in answerNumber r.answer ∷ answersBy p r.state order
+unfoldable pub answers_by : Program → State → List ℕ → List ℕ
+answers_by p s [] = []
+answers_by p s (i ∷ order) = let r = advance base p s i in answer_number r.answer ∷ answers_by p r.state order
 
-unfoldable pub stateBy : Program → State → List ℕ → State
-stateBy p s [] = s
-stateBy p s (i ∷ order) = stateBy p (advance base p s i).state order
+unfoldable pub state_by : Program → State → List ℕ → State
+state_by p s [] = s
+state_by p s (i ∷ order) = state_by p (advance base p s i).state order
 
-unfoldable pub answersAs : Answered → Bool
-answersAs c =
-    let same = same_list (answersBy (program_of c.table) startState c.order) c.answers in
-    eqb (answerNumber (start base c.table).answer) 0 && same
+unfoldable pub answers_as : Answered → Bool
+answers_as c =
+    let same = same_list (answers_by (program_of c.table) start_state c.order) c.answers in
+    eqb (answer_number (start base c.table).answer) 0 && same
 
-unfoldable pub allAnswer : List Answered → Bool
-allAnswer [] = true
-allAnswer (c ∷ cs) = let r = allAnswer cs in answersAs c && r
+unfoldable pub all_answer : List Answered → Bool
+all_answer [] = true
+all_answer (c ∷ cs) = let r = all_answer cs in answers_as c && r
 
 unfoldable pub own : List Answered
 own =

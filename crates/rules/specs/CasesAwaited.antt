@@ -1,17 +1,17 @@
 -- Cases of our own: how many an activity waits for, in runs and in states made by hand.
 use Rattle.std.specs.Prelude.{ℕ, List, [], ◌∷◌, ◌++◌, Bool, true, false, ◌&&◌, replicate, eqb}
 use Rattle.program.specs.Bodies.{Program, program_of}
-use Rattle.program.specs.Table.{workLimit, number_of}
+use Rattle.program.specs.Table.{work_limit, number_of}
 use Rattle.rules.specs.declared.state.Status.TheVariants.{Running, Ended}
 use Rattle.rules.specs.declared.state.Registration.TheVariants.{Live, Quiesced}
 use Rattle.rules.specs.declared.state.Operator.TheVariants.{Sum}
 use Rattle.rules.specs.declared.state.Activity.{Activity}
 use Rattle.rules.specs.declared.state.State.{State}
 use Rattle.rules.specs.Search.{list_from}
-use Rattle.rules.specs.State.{answerNumber}
+use Rattle.rules.specs.State.{answer_number}
 use Rattle.rules.specs.Effects.{stopped}
-use Rattle.rules.specs.Steps.{base, startState, awaited, advance, awaitedNumber, awaitedCount}
-use Rattle.rules.specs.Written.{bottom, holdOn, holding, activity, written, withHold, withSpawner, withActs, withCounts, change, pair, paired, crowd, crowded}
+use Rattle.rules.specs.Steps.{base, start_state, awaited, advance, awaited_number, awaited_count}
+use Rattle.rules.specs.Written.{bottom, hold_on, holding, activity, written, with_hold, with_spawner, with_acts, with_counts, change, pair, paired, crowd, crowded}
 use Rattle.rules.specs.CasesCalls.{same, reader, reading, lined, finish, finishing, lonely}
 
 -- RUNS
@@ -24,22 +24,22 @@ pub record Waited : Type 0 where
   pub awaited : List ℕ
 
 -- The steps of an order, without the test of number 13, are answered so, and wait for so many.
-unfoldable pub waitsAlong : Program → State → List ℕ → List ℕ → List ℕ → Bool
-waitsAlong p s [] [] [] = true
-waitsAlong p s [] [] (n ∷ numbers) = false
-waitsAlong p s [] (a ∷ more) numbers = false
-waitsAlong p s (i ∷ order) [] numbers = false
-waitsAlong p s (i ∷ order) (a ∷ more) [] = false
-waitsAlong p s (i ∷ order) (a ∷ more) (n ∷ numbers) =
+unfoldable pub waits_along : Program → State → List ℕ → List ℕ → List ℕ → Bool
+waits_along p s [] [] [] = true
+waits_along p s [] [] (n ∷ numbers) = false
+waits_along p s [] (a ∷ more) numbers = false
+waits_along p s (i ∷ order) [] numbers = false
+waits_along p s (i ∷ order) (a ∷ more) [] = false
+waits_along p s (i ∷ order) (a ∷ more) (n ∷ numbers) =
     let r = advance base p s i in
-    eqb (answerNumber r.answer) a && (eqb (awaited p s i) n && waitsAlong p r.state order more numbers)
+    eqb (answer_number r.answer) a && (eqb (awaited p s i) n && waits_along p r.state order more numbers)
 
-unfoldable pub waitsSo : Waited → Bool
-waitsSo c = eqb (number_of workLimit c.table) 0 && waitsAlong (program_of c.table) startState c.order c.answers c.awaited
+unfoldable pub waits_so : Waited → Bool
+waits_so c = eqb (number_of work_limit c.table) 0 && waits_along (program_of c.table) start_state c.order c.answers c.awaited
 
-unfoldable pub allWait : List Waited → Bool
-allWait [] = true
-allWait (c ∷ cs) = let r = allWait cs in waitsSo c && r
+unfoldable pub all_wait : List Waited → Bool
+all_wait [] = true
+all_wait (c ∷ cs) = let r = all_wait cs in waits_so c && r
 
 -- ACC 0 0, ASYNC of one that spawns another, then the command given under name 0.
 abbrev owning : ℕ → List ℕ
@@ -131,13 +131,13 @@ pub record Asked : Type 0 where
   pub number : ℕ
   pub count : ℕ
 
-unfoldable pub countsSo : Asked → Bool
-countsSo c =
-    eqb (awaitedNumber base c.table c.state c.activity) c.number && eqb (awaitedCount base c.table c.state c.activity) c.count
+unfoldable pub counts_so : Asked → Bool
+counts_so c =
+    eqb (awaited_number base c.table c.state c.activity) c.number && eqb (awaited_count base c.table c.state c.activity) c.count
 
-unfoldable pub allCount : List Asked → Bool
-allCount [] = true
-allCount (c ∷ cs) = let r = allCount cs in countsSo c && r
+unfoldable pub all_count : List Asked → Bool
+all_count [] = true
+all_count (c ∷ cs) = let r = all_count cs in counts_so c && r
 
 abbrev pub asks : List ℕ → State → ℕ → ℕ → ℕ → Asked
 asks table s i number count = record { table = table; state = s; activity = i; number = number; count = count }
@@ -147,14 +147,14 @@ abbrev unended : State
 unended = written 0 1 [] (activity Running 0 0 (bottom 0 0 ∷ []) [] (1 ∷ []) ∷ replicate 3 (activity Running 0 0 (bottom 0 1 ∷ []) [] [])) (holding 0 Sum 0 ∷ [])
 
 -- Sixty-three descendants of main, each a child of the one before; none has ended.
-unfoldable pub standingLine : Activity → State
-standingLine main = withCounts 0 64 0 0 (withActs (main ∷ list_from 63 0 (λ i. withSpawner i (activity Running 0 0 (bottom 0 1 ∷ []) [] []))) startState)
+unfoldable pub standing_line : Activity → State
+standing_line main = with_counts 0 64 0 0 (with_acts (main ∷ list_from 63 0 (λ i. with_spawner i (activity Running 0 0 (bottom 0 1 ∷ []) [] []))) start_state)
 
 unfoldable pub asked : List Asked
 asked =
     -- The table's number, 13, 14 and 15 have 0, in states where main waits or would.
     asks (0x01 ∷ 0x12 ∷ []) paired 0 3 0
-    ∷ asks pair (withCounts 9 2 1 0 paired) 0 13 0
+    ∷ asks pair (with_counts 9 2 1 0 paired) 0 13 0
     ∷ asks reader (reading same) 2 14 0
     ∷ asks reader (reading (λ a. stopped a Ended)) 0 15 0
     ∷ asks reader (reading same) 0 0 1
@@ -163,14 +163,14 @@ asked =
     ∷ asks crowd crowded 0 0 0
     -- A fault comes before waiting: F7 by a READ with three children that have not ended; without the clock it waits for the three.
     ∷ asks reader unended 0 0 3
-    ∷ asks reader (change 0 (withHold 6 (holdOn 0 0 Live)) unended) 0 0 0
+    ∷ asks reader (change 0 (with_hold 6 (hold_on 0 0 Live)) unended) 0 0 0
     -- In a line of sixty-three: the last alone, all others having ended; all; none is inside where the first was spawned before the finish.
     ∷ asks reader (lined (activity Running 0 0 (bottom 0 0 ∷ []) [] (1 ∷ [])) 1) 0 0 1
     ∷ asks finish (lined (finishing 1) 0) 0 0 1
-    ∷ asks finish (standingLine (finishing 1)) 0 0 63
-    ∷ asks finish (standingLine (finishing 2)) 0 0 0
+    ∷ asks finish (standing_line (finishing 1)) 0 0 63
+    ∷ asks finish (standing_line (finishing 2)) 0 0 0
     -- At a meeting and live, it waits for itself; with the child that is behind, for two.
     ∷ asks pair (lonely 3 Live) 0 0 1
-    ∷ asks pair (change 0 (withHold 0 (holdOn 0 0 Live)) paired) 0 0 2
-    ∷ asks pair (change 0 (withHold 0 (holdOn 65535 0 Quiesced)) (change 1 (withHold 0 (holdOn 65535 0 Live)) paired)) 0 0 1
+    ∷ asks pair (change 0 (with_hold 0 (hold_on 0 0 Live)) paired) 0 0 2
+    ∷ asks pair (change 0 (with_hold 0 (hold_on 65535 0 Quiesced)) (change 1 (with_hold 0 (hold_on 65535 0 Live)) paired)) 0 0 1
     ∷ []

@@ -1,6 +1,6 @@
 -- Cases of our own: a body under a condition. Runs with the whole state after them, what a run spares, and states made by hand.
 use Rattle.std.specs.Prelude.{ℕ, List, [], ◌∷◌, ◌++◌, Bool, true, false, ◌&&◌, replicate, eqb}
-use Rattle.program.specs.Same.{sameBool}
+use Rattle.program.specs.Same.{same_bool}
 use Rattle.rules.specs.declared.state.Fault.TheVariants.{F1, F3, F8}
 use Rattle.rules.specs.declared.state.Status.TheVariants.{Running, AtBarrier, Ended, Faulted}
 use Rattle.rules.specs.declared.state.Registration.TheVariants.{Live, Quiesced}
@@ -9,15 +9,15 @@ use Rattle.rules.specs.declared.state.Frame.{Frame}
 use Rattle.rules.specs.declared.state.Hold.{Hold}
 use Rattle.rules.specs.declared.state.Activity.{Activity}
 use Rattle.rules.specs.declared.state.State.{State}
-use Rattle.rules.specs.State.{noFrame, noHold}
-use Rattle.rules.specs.Effects.{withFrames}
+use Rattle.rules.specs.State.{no_frame, no_hold}
+use Rattle.rules.specs.Effects.{with_frames}
 use Rattle.rules.specs.Steps.{base}
-use Rattle.rules.specs.Runs.{spared, allRan}
-use Rattle.rules.specs.Written.{frameAt, bottom, holdOn, holding, activity, written, withStatus, change, crowded}
+use Rattle.rules.specs.Runs.{spared, all_ran}
+use Rattle.rules.specs.Written.{frame_at, bottom, hold_on, holding, activity, written, with_status, change, crowded}
 use Rattle.rules.specs.Cases.{Case}
 use Rattle.rules.specs.CasesStates.{Broken}
 use Rattle.rules.specs.CasesCalls.{Handed, refused, accepted}
-use Rattle.rules.specs.CasesRuns.{Run, running, atBarrier, ended, faulted, waits}
+use Rattle.rules.specs.CasesRuns.{Run, running, at_barrier, ended, faulted, waits}
 use Rattle.rules.specs.CasesAwaited.{Asked, asks}
 
 -- TABLES
@@ -27,8 +27,8 @@ abbrev alone : List ℕ
 alone = 0x02 ∷ 0x11 ∷ 0x01 ∷ 0x00 ∷ 0x00 ∷ []
 
 -- PUT 9, ASYNC 1 0, PUT 0, CHOOSE 2; body 1 CHOOSE 2; body 2 PUT 4, STORE 3. Main skips body 2, and its child, which has hand 9, runs it.
-abbrev ownHand : List ℕ
-ownHand = 0x03 ∷ 0x0C ∷ 0x09 ∷ 0x00 ∷ 0x00 ∷ 0x00 ∷ 0x05 ∷ 0x01 ∷ 0x00 ∷ 0x0C ∷ 0x00 ∷ 0x00 ∷ 0x00 ∷ 0x00 ∷ 0x11 ∷ 0x02 ∷ 0x00 ∷ 0x11 ∷ 0x02 ∷ 0x00 ∷ 0x0C ∷ 0x04 ∷ 0x00 ∷ 0x00 ∷ 0x00 ∷ 0x0E ∷ 0x03 ∷ 0x00 ∷ []
+abbrev own_hand : List ℕ
+own_hand = 0x03 ∷ 0x0C ∷ 0x09 ∷ 0x00 ∷ 0x00 ∷ 0x00 ∷ 0x05 ∷ 0x01 ∷ 0x00 ∷ 0x0C ∷ 0x00 ∷ 0x00 ∷ 0x00 ∷ 0x00 ∷ 0x11 ∷ 0x02 ∷ 0x00 ∷ 0x11 ∷ 0x02 ∷ 0x00 ∷ 0x0C ∷ 0x04 ∷ 0x00 ∷ 0x00 ∷ 0x00 ∷ 0x0E ∷ 0x03 ∷ 0x00 ∷ []
 
 -- PUT 256, CHOOSE 1; body 1 PUT 0, CHOOSE 2, PUT 7, CHOOSE 2; body 2 STORE 5.
 abbrev within : List ℕ
@@ -43,8 +43,8 @@ abbrev lending : List ℕ
 lending = 0x03 ∷ 0x02 ∷ 0x03 ∷ 0x02 ∷ 0x06 ∷ 0x0C ∷ 0x01 ∷ 0x00 ∷ 0x00 ∷ 0x00 ∷ 0x11 ∷ 0x01 ∷ 0x01 ∷ 0x00 ∷ 0x05 ∷ 0x02 ∷ 0x40 ∷ 0x01 ∷ 0x00 ∷ 0x01 ∷ 0x00 ∷ []
 
 -- PUT 1, FINISH 1; body 1 CHOOSE 2; body 2 ASYNC 3 0; body 3 is a bare END.
-abbrev inFinish : List ℕ
-inFinish = 0x04 ∷ 0x0C ∷ 0x01 ∷ 0x00 ∷ 0x00 ∷ 0x00 ∷ 0x06 ∷ 0x01 ∷ 0x00 ∷ 0x11 ∷ 0x02 ∷ 0x00 ∷ 0x05 ∷ 0x03 ∷ 0x00 ∷ 0x00 ∷ 0x00 ∷ []
+abbrev in_finish : List ℕ
+in_finish = 0x04 ∷ 0x0C ∷ 0x01 ∷ 0x00 ∷ 0x00 ∷ 0x00 ∷ 0x06 ∷ 0x01 ∷ 0x00 ∷ 0x11 ∷ 0x02 ∷ 0x00 ∷ 0x05 ∷ 0x03 ∷ 0x00 ∷ 0x00 ∷ 0x00 ∷ []
 
 -- PUT 8, STORE 2, CLOCK 3, CLOCK 6, RESUME 6, ACC 5 2, CHOOSE 1, PUT 0, CHOOSE 1; body 1 is a bare END.
 abbrev holder : List ℕ
@@ -55,18 +55,18 @@ abbrev faulty : List ℕ
 faulty = 0x04 ∷ 0x0C ∷ 0x01 ∷ 0x00 ∷ 0x00 ∷ 0x00 ∷ 0x06 ∷ 0x01 ∷ 0x00 ∷ 0x11 ∷ 0x02 ∷ 0x00 ∷ 0x05 ∷ 0x03 ∷ 0x00 ∷ 0x00 ∷ 0x03 ∷ 0x04 ∷ 0x00 ∷ []
 
 abbrev free : ℕ → List Hold
-free n = replicate n noHold
+free n = replicate n no_hold
 
 -- CLOCK 3, CLOCK 6, RESUME 6, ACC 2 1, ASYNC 3 8, FINISH 1; body 1 ASYNC 3 0, CHOOSE 2; body 3 CHOOSE 4; bodies 2 and 4 are bare ENDs. With hand 0, and with PUT 1 before it.
-abbrev crowdedFinish : List ℕ
-crowdedFinish = 0x05 ∷ 0x02 ∷ 0x03 ∷ 0x02 ∷ 0x06 ∷ 0x03 ∷ 0x06 ∷ 0x08 ∷ 0x02 ∷ 0x01 ∷ 0x05 ∷ 0x03 ∷ 0x08 ∷ 0x06 ∷ 0x01 ∷ 0x00 ∷ 0x05 ∷ 0x03 ∷ 0x00 ∷ 0x11 ∷ 0x02 ∷ 0x00 ∷ 0x00 ∷ 0x11 ∷ 0x04 ∷ 0x00 ∷ 0x00 ∷ []
+abbrev crowded_finish : List ℕ
+crowded_finish = 0x05 ∷ 0x02 ∷ 0x03 ∷ 0x02 ∷ 0x06 ∷ 0x03 ∷ 0x06 ∷ 0x08 ∷ 0x02 ∷ 0x01 ∷ 0x05 ∷ 0x03 ∷ 0x08 ∷ 0x06 ∷ 0x01 ∷ 0x00 ∷ 0x05 ∷ 0x03 ∷ 0x00 ∷ 0x11 ∷ 0x02 ∷ 0x00 ∷ 0x00 ∷ 0x11 ∷ 0x04 ∷ 0x00 ∷ 0x00 ∷ []
 
-abbrev crowdedFinishOne : List ℕ
-crowdedFinishOne = 0x05 ∷ 0x0C ∷ 0x01 ∷ 0x00 ∷ 0x00 ∷ 0x00 ∷ 0x02 ∷ 0x03 ∷ 0x02 ∷ 0x06 ∷ 0x03 ∷ 0x06 ∷ 0x08 ∷ 0x02 ∷ 0x01 ∷ 0x05 ∷ 0x03 ∷ 0x08 ∷ 0x06 ∷ 0x01 ∷ 0x00 ∷ 0x05 ∷ 0x03 ∷ 0x00 ∷ 0x11 ∷ 0x02 ∷ 0x00 ∷ 0x00 ∷ 0x11 ∷ 0x04 ∷ 0x00 ∷ 0x00 ∷ []
+abbrev crowded_finish_one : List ℕ
+crowded_finish_one = 0x05 ∷ 0x0C ∷ 0x01 ∷ 0x00 ∷ 0x00 ∷ 0x00 ∷ 0x02 ∷ 0x03 ∷ 0x02 ∷ 0x06 ∷ 0x03 ∷ 0x06 ∷ 0x08 ∷ 0x02 ∷ 0x01 ∷ 0x05 ∷ 0x03 ∷ 0x08 ∷ 0x06 ∷ 0x01 ∷ 0x00 ∷ 0x05 ∷ 0x03 ∷ 0x00 ∷ 0x11 ∷ 0x02 ∷ 0x00 ∷ 0x00 ∷ 0x11 ∷ 0x04 ∷ 0x00 ∷ 0x00 ∷ []
 
 -- Main in its body 1, and a child at a place of body 3.
 abbrev owner : ℕ → List Frame → Activity
-owner hand frames = activity Running 0 hand frames (free 3 ++ (holdOn 0 0 Live ∷ free 2 ++ (holdOn 0 1 Quiesced ∷ []))) (0 ∷ 0 ∷ 1 ∷ [])
+owner hand frames = activity Running 0 hand frames (free 3 ++ (hold_on 0 0 Live ∷ free 2 ++ (hold_on 0 1 Quiesced ∷ []))) (0 ∷ 0 ∷ 1 ∷ [])
 
 abbrev inside : ℕ → ℕ → List Hold → Activity
 inside hand offset holds = activity Running 0 hand (bottom offset 3 ∷ []) holds (0 ∷ 0 ∷ 1 ∷ [])
@@ -87,18 +87,18 @@ chosen =
       table = 0x02 ∷ 0x0C ∷ 0x00 ∷ 0x00 ∷ 0x00 ∷ 0x80 ∷ 0x11 ∷ 0x01 ∷ 0x00 ∷ 0x00 ∷ [];
       order = 0 ∷ 0 ∷ [];
       answers = running ∷ running ∷ [];
-      after = written 2 0 [] (activity Running 0 2147483648 (bottom 5 0 ∷ frameAt 0 1 0 0 ∷ []) [] [] ∷ []) [];
+      after = written 2 0 [] (activity Running 0 2147483648 (bottom 5 0 ∷ frame_at 0 1 0 0 ∷ []) [] [] ∷ []) [];
     }
     -- The own hand decides: main's is 0, its child's is 9.
     ∷ record {
-      table = ownHand;
+      table = own_hand;
       order = replicate 4 0 ++ (1 ∷ 1 ∷ []);
       answers = replicate 6 running;
-      after = written 6 0 [] (activity Running 0 0 (bottom 15 0 ∷ []) [] [] ∷ activity Running 0 4 (bottom 0 1 ∷ frameAt 5 2 0 0 ∷ []) [] [] ∷ []) [];
+      after = written 6 0 [] (activity Running 0 0 (bottom 15 0 ∷ []) [] [] ∷ activity Running 0 4 (bottom 0 1 ∷ frame_at 5 2 0 0 ∷ []) [] [] ∷ []) [];
     }
     -- To the end: the child goes on after its CHOOSE.
     ∷ record {
-      table = ownHand;
+      table = own_hand;
       order = replicate 4 0 ++ (1 ∷ 1 ∷ 1 ∷ 1 ∷ 1 ∷ 0 ∷ []);
       answers = replicate 8 running ++ (ended ∷ ended ∷ []);
       after = written 10 0 (0 ∷ 0 ∷ 0 ∷ 4 ∷ []) (activity Ended 0 0 [] [] [] ∷ activity Ended 0 4 [] [] [] ∷ []) [];
@@ -108,7 +108,7 @@ chosen =
       table = within;
       order = replicate 6 0;
       answers = replicate 6 running;
-      after = written 6 0 [] (activity Running 0 7 (bottom 5 0 ∷ frameAt 12 1 0 0 ∷ frameAt 0 2 0 0 ∷ []) [] [] ∷ []) [];
+      after = written 6 0 [] (activity Running 0 7 (bottom 5 0 ∷ frame_at 12 1 0 0 ∷ frame_at 0 2 0 0 ∷ []) [] [] ∷ []) [];
     }
     -- Each END goes on after its own CHOOSE.
     ∷ record {
@@ -132,7 +132,7 @@ chosen =
       answers = replicate 7 running;
       after =
           written 7 2 (0 ∷ 0 ∷ 8 ∷ [])
-          (activity Running 0 8 (bottom 16 0 ∷ frameAt 0 1 0 0 ∷ []) (free 3 ++ (holdOn 0 0 Live ∷ free 2 ++ (holdOn 0 1 Quiesced ∷ []))) (0 ∷ 0 ∷ 0 ∷ 0 ∷ 0 ∷ 1 ∷ []) ∷ [])
+          (activity Running 0 8 (bottom 16 0 ∷ frame_at 0 1 0 0 ∷ []) (free 3 ++ (hold_on 0 0 Live ∷ free 2 ++ (hold_on 0 1 Quiesced ∷ []))) (0 ∷ 0 ∷ 0 ∷ 0 ∷ 0 ∷ 1 ∷ []) ∷ [])
           (holding 0 Maximum 0 ∷ []);
     }
     -- at its END, and where it is skipped.
@@ -142,7 +142,7 @@ chosen =
       answers = replicate 10 running;
       after =
           written 10 2 (0 ∷ 0 ∷ 8 ∷ [])
-          (activity Running 0 0 (bottom 25 0 ∷ []) (free 3 ++ (holdOn 0 0 Live ∷ free 2 ++ (holdOn 0 1 Quiesced ∷ []))) (0 ∷ 0 ∷ 0 ∷ 0 ∷ 0 ∷ 1 ∷ []) ∷ [])
+          (activity Running 0 0 (bottom 25 0 ∷ []) (free 3 ++ (hold_on 0 0 Live ∷ free 2 ++ (hold_on 0 1 Quiesced ∷ []))) (0 ∷ 0 ∷ 0 ∷ 0 ∷ 0 ∷ 1 ∷ []) ∷ [])
           (holding 0 Maximum 0 ∷ []);
     }
     -- In a REPEAT body: skipped in the first run, and run in the second.
@@ -150,24 +150,24 @@ chosen =
       table = rounds;
       order = replicate 5 0;
       answers = replicate 5 running;
-      after = written 5 0 [] (activity Running 0 5 (bottom 0 0 ∷ frameAt 0 1 1 0 ∷ frameAt 0 2 0 0 ∷ []) [] [] ∷ []) [];
+      after = written 5 0 [] (activity Running 0 5 (bottom 0 0 ∷ frame_at 0 1 1 0 ∷ frame_at 0 2 0 0 ∷ []) [] [] ∷ []) [];
     }
     -- Its END is one step, and goes on in the REPEAT body.
     ∷ record {
       table = rounds;
       order = replicate 6 0;
       answers = replicate 6 running;
-      after = written 6 0 [] (activity Running 0 5 (bottom 0 0 ∷ frameAt 2 1 1 0 ∷ []) [] [] ∷ []) [];
+      after = written 6 0 [] (activity Running 0 5 (bottom 0 0 ∷ frame_at 2 1 1 0 ∷ []) [] [] ∷ []) [];
     }
     -- A CHOOSE body is no FINISH body: it may lend a clock, and its END waits for nobody. A meeting in it, on two clocks.
     ∷ record {
       table = lending;
       order = replicate 7 0 ++ (1 ∷ 0 ∷ 0 ∷ []);
-      answers = replicate 5 running ++ (atBarrier ∷ waits ∷ atBarrier ∷ running ∷ running ∷ []);
+      answers = replicate 5 running ++ (at_barrier ∷ waits ∷ at_barrier ∷ running ∷ running ∷ []);
       after =
           written 9 2 []
-          (activity Running 0 1 (bottom 11 0 ∷ []) (free 3 ++ (holdOn 1 0 Live ∷ free 2 ++ (holdOn 1 1 Live ∷ []))) []
-          ∷ activity AtBarrier 0 1 (bottom 0 2 ∷ []) (free 6 ++ (holdOn 0 1 Quiesced ∷ [])) []
+          (activity Running 0 1 (bottom 11 0 ∷ []) (free 3 ++ (hold_on 1 0 Live ∷ free 2 ++ (hold_on 1 1 Live ∷ []))) []
+          ∷ activity AtBarrier 0 1 (bottom 0 2 ∷ []) (free 6 ++ (hold_on 0 1 Quiesced ∷ [])) []
           ∷ [])
           [];
     }
@@ -180,33 +180,33 @@ chosen =
     }
     -- Who is spawned in a CHOOSE body in a FINISH body is inside the finish: END of the FINISH body waits, END of the CHOOSE body does not.
     ∷ record {
-      table = inFinish;
+      table = in_finish;
       order = replicate 6 0;
       answers = replicate 5 running ++ (waits ∷ []);
-      after = written 5 0 [] (activity Running 0 1 (bottom 5 0 ∷ frameAt 2 1 0 1 ∷ []) [] [] ∷ activity Running 0 1 (bottom 0 3 ∷ []) [] [] ∷ []) [];
+      after = written 5 0 [] (activity Running 0 1 (bottom 5 0 ∷ frame_at 2 1 0 1 ∷ []) [] [] ∷ activity Running 0 1 (bottom 0 3 ∷ []) [] [] ∷ []) [];
     }
     -- Then it goes on.
     ∷ record {
-      table = inFinish;
+      table = in_finish;
       order = replicate 6 0 ++ (1 ∷ 0 ∷ 0 ∷ []);
       answers = replicate 5 running ++ (waits ∷ ended ∷ running ∷ ended ∷ []);
       after = written 8 0 [] (activity Ended 0 1 [] [] [] ∷ activity Ended 0 1 [] [] [] ∷ []) [];
     }
     -- With unended children, one inside the finish and one from before it: skipped in the FINISH body, whose first number stays, and by a child;
     ∷ record {
-      table = crowdedFinish;
+      table = crowded_finish;
       order = replicate 8 0 ++ (2 ∷ []);
       answers = replicate 9 running;
       after =
-          written 9 2 [] (owner 0 (bottom 12 0 ∷ frameAt 5 1 0 2 ∷ []) ∷ inside 0 0 (free 3 ++ (holdOn 0 0 Live ∷ [])) ∷ inside 0 2 [] ∷ []) (holding 4294967295 Minimum 0 ∷ []);
+          written 9 2 [] (owner 0 (bottom 12 0 ∷ frame_at 5 1 0 2 ∷ []) ∷ inside 0 0 (free 3 ++ (hold_on 0 0 Live ∷ [])) ∷ inside 0 2 [] ∷ []) (holding 4294967295 Minimum 0 ∷ []);
     }
     -- run there.
     ∷ record {
-      table = crowdedFinishOne;
+      table = crowded_finish_one;
       order = replicate 9 0;
       answers = replicate 9 running;
       after =
-          written 9 2 [] (owner 1 (bottom 17 0 ∷ frameAt 3 1 0 2 ∷ frameAt 0 2 0 0 ∷ []) ∷ inside 1 0 (free 3 ++ (holdOn 0 0 Live ∷ [])) ∷ inside 1 0 [] ∷ []) (holding 4294967295 Minimum 0 ∷ []);
+          written 9 2 [] (owner 1 (bottom 17 0 ∷ frame_at 3 1 0 2 ∷ frame_at 0 2 0 0 ∷ []) ∷ inside 1 0 (free 3 ++ (hold_on 0 0 Live ∷ [])) ∷ inside 1 0 [] ∷ []) (holding 4294967295 Minimum 0 ∷ []);
     }
     -- The END of a CHOOSE body passes no fault on, that of the FINISH body below it does.
     ∷ record {
@@ -227,8 +227,8 @@ chosen =
 -- WORK
 
 -- "A run without faults now takes at most its work, and a finished one exactly its work where each CHOOSE step taken in it ran its body": through the whole calls.
-unfoldable pub chosenWork : List Case
-chosenWork =
+unfoldable pub chosen_work : List Case
+chosen_work =
     record { table = alone; order = replicate 3 0; expected = record { number = 0; work = 3; activities = 1; answers = 0 ∷ 0 ∷ 15 ∷ []; taken = 2; ended = 1; spawned = 1 } }
     ∷ record {
       table = 0x02 ∷ 0x0C ∷ 0x01 ∷ 0x00 ∷ 0x00 ∷ 0x00 ∷ 0x11 ∷ 0x01 ∷ 0x00 ∷ 0x00 ∷ [];
@@ -249,12 +249,12 @@ pub record Sparing : Type 0 where
   pub spared : ℕ
   pub ran : Bool
 
-unfoldable pub sparesSo : Sparing → Bool
-sparesSo c = eqb (spared base c.table c.order) c.spared && sameBool (allRan base c.table c.order) c.ran
+unfoldable pub spares_so : Sparing → Bool
+spares_so c = eqb (spared base c.table c.order) c.spared && same_bool (all_ran base c.table c.order) c.ran
 
-unfoldable pub allSpare : List Sparing → Bool
-allSpare [] = true
-allSpare (c ∷ cs) = let r = allSpare cs in sparesSo c && r
+unfoldable pub all_spare : List Sparing → Bool
+all_spare [] = true
+all_spare (c ∷ cs) = let r = all_spare cs in spares_so c && r
 
 -- CHOOSE 1; body 1 NEXT. Its work is 3.
 abbrev meeting : List ℕ
@@ -272,7 +272,7 @@ sparing =
     -- Nor do other commands with hand 0: CLOCK 0, ASYNC 1 0, NEXT, ATOM 1 of FETCH 0.
     ∷ record { table = 0x02 ∷ 0x02 ∷ 0x00 ∷ 0x05 ∷ 0x01 ∷ 0x00 ∷ 0x01 ∷ 0x10 ∷ 0x01 ∷ 0x0D ∷ 0x00 ∷ 0x00 ∷ 0x00 ∷ []; order = replicate 5 0; spared = 0; ran = true }
     -- Each ran, though calls are answered with 16, or with faults; one in the other, with hand 256; two activities.
-    ∷ record { table = inFinish; order = replicate 6 0; spared = 0; ran = true }
+    ∷ record { table = in_finish; order = replicate 6 0; spared = 0; ran = true }
     ∷ record { table = faulty; order = replicate 4 0 ++ (1 ∷ []); spared = 0; ran = true }
     ∷ record { table = 0x03 ∷ 0x0C ∷ 0x00 ∷ 0x01 ∷ 0x00 ∷ 0x00 ∷ 0x11 ∷ 0x01 ∷ 0x00 ∷ 0x11 ∷ 0x02 ∷ 0x00 ∷ 0x01 ∷ 0x00 ∷ []; order = replicate 3 0; spared = 0; ran = true }
     ∷ record { table = 0x03 ∷ 0x0C ∷ 0x09 ∷ 0x00 ∷ 0x00 ∷ 0x00 ∷ 0x05 ∷ 0x01 ∷ 0x00 ∷ 0x11 ∷ 0x02 ∷ 0x00 ∷ 0x11 ∷ 0x02 ∷ 0x00 ∷ 0x00 ∷ []; order = 0 ∷ 0 ∷ 0 ∷ 1 ∷ []; spared = 0; ran = true }
@@ -283,7 +283,7 @@ sparing =
     -- One of two rounds; the second of three; one of two activities.
     ∷ record { table = rounds; order = replicate 5 0; spared = 1; ran = false }
     ∷ record { table = within; order = replicate 6 0; spared = 2; ran = false }
-    ∷ record { table = ownHand; order = replicate 4 0 ++ (1 ∷ []); spared = 3; ran = false }
+    ∷ record { table = own_hand; order = replicate 4 0 ++ (1 ∷ []); spared = 3; ran = false }
     -- With the body what it would have run: CHOOSE 1; body 1 CHOOSE 2; body 2 NEXT. And twice: REPEAT 2 1; body 1 CHOOSE 2; body 2 NEXT.
     ∷ record { table = 0x03 ∷ 0x11 ∷ 0x01 ∷ 0x00 ∷ 0x11 ∷ 0x02 ∷ 0x00 ∷ 0x01 ∷ 0x00 ∷ []; order = replicate 2 0; spared = 5; ran = false }
     ∷ record { table = 0x03 ∷ 0x07 ∷ 0x02 ∷ 0x01 ∷ 0x00 ∷ 0x11 ∷ 0x02 ∷ 0x00 ∷ 0x01 ∷ 0x00 ∷ []; order = replicate 4 0; spared = 6; ran = false }
@@ -293,28 +293,28 @@ sparing =
 
 -- FINISH 2, CHOOSE 1, CHOOSE 2; bodies 1 and 2 are bare ENDs. Activity 63 has a body on another.
 abbrev pair : Frame → Frame → State
-pair f g = change 63 (λ a. withStatus Running (withFrames a 2 (f ∷ g ∷ replicate 14 noFrame))) crowded
+pair f g = change 63 (λ a. with_status Running (with_frames a 2 (f ∷ g ∷ replicate 14 no_frame))) crowded
 
 -- "Number 13 takes it with FINISH and REPEAT." The hand may be 0: the body may have changed it.
-unfoldable pub underChoose : Broken
-underChoose =
+unfoldable pub under_choose : Broken
+under_choose =
     record {
       table = 0x03 ∷ 0x06 ∷ 0x02 ∷ 0x11 ∷ 0x01 ∷ 0x11 ∷ 0x02 ∷ 0x00 ∷ 0x00 ∷ 0x00 ∷ [];
-      fit = pair (bottom 2 0) (frameAt 0 1 0 0);
+      fit = pair (bottom 2 0) (frame_at 0 1 0 0);
       unfit =
           -- runs, first, another body, above another CHOOSE, above END, no place
-          pair (bottom 2 0) (frameAt 0 1 1 0)
-          ∷ pair (bottom 2 0) (frameAt 0 1 0 1)
-          ∷ pair (bottom 2 0) (frameAt 0 2 0 0)
-          ∷ pair (bottom 4 0) (frameAt 0 1 0 0)
-          ∷ pair (bottom 6 0) (frameAt 0 1 0 0)
-          ∷ pair (bottom 2 0) (frameAt 1 1 0 0)
+          pair (bottom 2 0) (frame_at 0 1 1 0)
+          ∷ pair (bottom 2 0) (frame_at 0 1 0 1)
+          ∷ pair (bottom 2 0) (frame_at 0 2 0 0)
+          ∷ pair (bottom 4 0) (frame_at 0 1 0 0)
+          ∷ pair (bottom 6 0) (frame_at 0 1 0 0)
+          ∷ pair (bottom 2 0) (frame_at 1 1 0 0)
           ∷ [];
     }
 
 -- Main in the CHOOSE body of `alone`, with a child that stands so; so many steps are taken.
 abbrev leaving : ℕ → Activity → State
-leaving steps x = written steps 0 [] (activity Running 0 0 (bottom 0 0 ∷ frameAt 0 1 0 0 ∷ []) [] [] ∷ x ∷ []) []
+leaving steps x = written steps 0 [] (activity Running 0 0 (bottom 0 0 ∷ frame_at 0 1 0 0 ∷ []) [] [] ∷ x ∷ []) []
 
 abbrev left : ℕ → Activity → State
 left steps x = written steps 0 [] (activity Running 0 0 (bottom 2 0 ∷ []) [] [] ∷ x ∷ []) []
@@ -333,7 +333,7 @@ choosing =
     ∷ refused alone (leaving 3 alive) 0 17 3
     -- A CHOOSE too goes on with a child that runs, into its body and past it.
     ∷ accepted alone (written 0 0 [] (activity Running 0 5 (bottom 0 0 ∷ []) [] [] ∷ alive ∷ []) []) 0 3 running
-    (written 1 0 [] (activity Running 0 5 (bottom 0 0 ∷ frameAt 0 1 0 0 ∷ []) [] [] ∷ alive ∷ []) [])
+    (written 1 0 [] (activity Running 0 5 (bottom 0 0 ∷ frame_at 0 1 0 0 ∷ []) [] [] ∷ alive ∷ []) [])
     ∷ accepted alone (written 0 0 [] (activity Running 0 0 (bottom 0 0 ∷ []) [] [] ∷ alive ∷ []) []) 0 3 running (left 1 alive)
     -- 17 where no step is left, with hand 0 and with another.
     ∷ refused alone (written 3 0 [] (activity Running 0 0 (bottom 0 0 ∷ []) [] [] ∷ []) []) 0 17 1

@@ -7,15 +7,15 @@ use Rattle.rules.specs.declared.state.Operator.TheVariants.{Sum}
 use Rattle.rules.specs.declared.state.Activity.{Activity}
 use Rattle.rules.specs.declared.state.State.{State}
 use Rattle.rules.specs.declared.answer.Answer.TheVariants.{Accepted, Refused}
-use Rattle.rules.specs.State.{noActivity}
+use Rattle.rules.specs.State.{no_activity}
 use Rattle.rules.specs.Effects.{stopped}
-use Rattle.rules.specs.Written.{bottom, holding, activity, written, withSpawner, withCounts, change}
+use Rattle.rules.specs.Written.{bottom, holding, activity, written, with_spawner, with_counts, change}
 use Rattle.rules.specs.Cases.{Case}
 use Rattle.rules.specs.CasesCalls.{Handed, refused, accepted, lined, finish, finishing}
-use Rattle.rules.specs.CasesRuns.{Run, running, atBarrier, ended, faulted, waits}
+use Rattle.rules.specs.CasesRuns.{Run, running, at_barrier, ended, faulted, waits}
 
-unfoldable pub passedOn : List Run
-passedOn =
+unfoldable pub passed_on : List Run
+passed_on =
     -- A child. FINISH 1; body 1 ASYNC 2 0; body 2 RESUME 0. Main waits for it, faults, and has ended.
     record {
       table = 0x03 ∷ 0x06 ∷ 0x01 ∷ 0x00 ∷ 0x05 ∷ 0x02 ∷ 0x00 ∷ 0x00 ∷ 0x03 ∷ 0x00 ∷ 0x00 ∷ [];
@@ -55,7 +55,7 @@ passedOn =
     ∷ record {
       table = 0x04 ∷ 0x02 ∷ 0x00 ∷ 0x05 ∷ 0x02 ∷ 0x01 ∷ 0x06 ∷ 0x01 ∷ 0x01 ∷ 0x00 ∷ 0x05 ∷ 0x03 ∷ 0x00 ∷ 0x00 ∷ 0x01 ∷ 0x00 ∷ 0x03 ∷ 0x01 ∷ 0x00 ∷ [];
       order = 0 ∷ 0 ∷ 0 ∷ 0 ∷ 0 ∷ 1 ∷ 2 ∷ 1 ∷ 0 ∷ 1 ∷ 1 ∷ [];
-      answers = running ∷ running ∷ running ∷ running ∷ waits ∷ atBarrier ∷ faulted F1 ∷ waits ∷ faulted F8 ∷ running ∷ ended ∷ [];
+      answers = running ∷ running ∷ running ∷ running ∷ waits ∷ at_barrier ∷ faulted F1 ∷ waits ∷ faulted F8 ∷ running ∷ ended ∷ [];
       after = written 9 1 [] (activity (Faulted F8) 0 0 [] [] [] ∷ activity Ended 0 0 [] [] [] ∷ activity (Faulted F1) 0 0 [] [] [] ∷ []) [];
     }
     -- READ tells nothing: ACC 0 0, ASYNC 1 0, READ 0; body 1 RESUME 0.
@@ -142,11 +142,11 @@ abbrev over : Status → Activity
 over status = activity status 0 0 [] [] []
 
 -- Sixty-three descendants of main, each a child of the one before; all have ended, the last by a fault.
-abbrev faultedLine : Activity → State
-faultedLine main = change 63 (λ a. withSpawner 62 (stopped noActivity (Faulted F2))) (lined main 0)
+abbrev faulted_line : Activity → State
+faulted_line main = change 63 (λ a. with_spawner 62 (stopped no_activity (Faulted F2))) (lined main 0)
 
-unfoldable pub handedOn : List Handed
-handedOn =
+unfoldable pub handed_on : List Handed
+handed_on =
     -- The owner is in the ready set, and faults for a child that faulted with F7, or with F8.
     accepted finish (closing 0 (over (Faulted F7)) (over Ended)) 0 1 (faulted F8) (written 1 0 [] (over (Faulted F8) ∷ over (Faulted F7) ∷ over Ended ∷ []) [])
     ∷ accepted finish (closing 0 (over Ended) (over (Faulted F8))) 0 1 (faulted F8) (written 1 0 [] (over (Faulted F8) ∷ over Ended ∷ over (Faulted F8) ∷ []) [])
@@ -156,6 +156,6 @@ handedOn =
     ∷ refused finish (closing 3 (over (Faulted F7)) (over Ended)) 0 17 1
     ∷ accepted finish (closing 2 (over (Faulted F7)) (over Ended)) 0 1 (faulted F8) (written 3 0 [] (over (Faulted F8) ∷ over (Faulted F7) ∷ over Ended ∷ []) [])
     -- The last of sixty-three alone; it is not inside where the first was spawned before the finish.
-    ∷ accepted finish (faultedLine (finishing 1)) 0 1 (faulted F8) (withCounts 1 64 0 0 (change 0 (λ a. over (Faulted F8)) (faultedLine (finishing 1))))
-    ∷ accepted finish (faultedLine (finishing 2)) 0 1 (Accepted Running) (withCounts 1 64 0 0 (change 0 (λ a. activity Running 0 0 (bottom 2 0 ∷ []) [] []) (faultedLine (finishing 2))))
+    ∷ accepted finish (faulted_line (finishing 1)) 0 1 (faulted F8) (with_counts 1 64 0 0 (change 0 (λ a. over (Faulted F8)) (faulted_line (finishing 1))))
+    ∷ accepted finish (faulted_line (finishing 2)) 0 1 (Accepted Running) (with_counts 1 64 0 0 (change 0 (λ a. activity Running 0 0 (bottom 2 0 ∷ []) [] []) (faulted_line (finishing 2))))
     ∷ []

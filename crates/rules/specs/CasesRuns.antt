@@ -1,7 +1,7 @@
 -- Cases of our own: runs with the answer of each step, its status included, and the whole state after them, written out.
 use Rattle.std.specs.Prelude.{ℕ, ◌+◌, List, [], ◌∷◌, ◌++◌, Bool, true, false, ◌&&◌, replicate, eqb}
 use Rattle.program.specs.Bodies.{Program, program_of}
-use Rattle.program.specs.Table.{workLimit, number_of}
+use Rattle.program.specs.Table.{work_limit, number_of}
 use Rattle.rules.specs.declared.state.Fault.{Fault}
 use Rattle.rules.specs.declared.state.Fault.TheVariants.{F1, F2, F3, F4, F5, F6, F7}
 use Rattle.rules.specs.declared.state.Status.TheVariants.{Running, AtBarrier, Ended, Faulted}
@@ -11,10 +11,10 @@ use Rattle.rules.specs.declared.state.Hold.{Hold}
 use Rattle.rules.specs.declared.state.State.{State}
 use Rattle.rules.specs.declared.answer.Answer.{Answer}
 use Rattle.rules.specs.declared.answer.Answer.TheVariants.{Accepted, Refused}
-use Rattle.rules.specs.State.{noHold}
-use Rattle.rules.specs.Steps.{base, startState, advance}
-use Rattle.rules.specs.Same.{sameAnswer, sameState}
-use Rattle.rules.specs.Written.{frameAt, bottom, holdOn, holding, activity, written}
+use Rattle.rules.specs.State.{no_hold}
+use Rattle.rules.specs.Steps.{base, start_state, advance}
+use Rattle.rules.specs.Same.{same_answer, same_state}
+use Rattle.rules.specs.Written.{frame_at, bottom, hold_on, holding, activity, written}
 
 -- An accepted table with an order, the steps' answers, and the state after them.
 pub record Run : Type 0 where
@@ -25,24 +25,24 @@ pub record Run : Type 0 where
 
 -- The steps of an order, without the test of number 13, are answered so and come to the state.
 unfoldable pub goes : Program → State → List ℕ → List Answer → State → Bool
-goes p s [] [] after = sameState s after
+goes p s [] [] after = same_state s after
 goes p s [] (a ∷ more) after = false
 goes p s (i ∷ order) [] after = false
-goes p s (i ∷ order) (a ∷ more) after = let r = advance base p s i in sameAnswer r.answer a && goes p r.state order more after
+goes p s (i ∷ order) (a ∷ more) after = let r = advance base p s i in same_answer r.answer a && goes p r.state order more after
 
-unfoldable pub goesSo : Run → Bool
-goesSo c = eqb (number_of workLimit c.table) 0 && goes (program_of c.table) startState c.order c.answers c.after
+unfoldable pub goes_so : Run → Bool
+goes_so c = eqb (number_of work_limit c.table) 0 && goes (program_of c.table) start_state c.order c.answers c.after
 
-unfoldable pub allGo : List Run → Bool
-allGo [] = true
-allGo (c ∷ cs) = let r = allGo cs in goesSo c && r
+unfoldable pub all_go : List Run → Bool
+all_go [] = true
+all_go (c ∷ cs) = let r = all_go cs in goes_so c && r
 
 -- The answers.
 abbrev pub running : Answer
 running = Accepted Running
 
-abbrev pub atBarrier : Answer
-atBarrier = Accepted AtBarrier
+abbrev pub at_barrier : Answer
+at_barrier = Accepted AtBarrier
 
 abbrev pub ended : Answer
 ended = Accepted Ended
@@ -54,13 +54,13 @@ abbrev pub waits : Answer
 waits = Refused 16
 
 abbrev free : ℕ → List Hold
-free n = replicate n noHold
+free n = replicate n no_hold
 
 -- NAMES
 
 -- CLOCK 2, CLOCK 5, RESUME 5, DROP 2, CLOCK 3.
-abbrev twoClocks : List ℕ
-twoClocks = 0x01 ∷ 0x02 ∷ 0x02 ∷ 0x02 ∷ 0x05 ∷ 0x03 ∷ 0x05 ∷ 0x04 ∷ 0x02 ∷ 0x02 ∷ 0x03 ∷ 0x00 ∷ []
+abbrev two_clocks : List ℕ
+two_clocks = 0x01 ∷ 0x02 ∷ 0x02 ∷ 0x02 ∷ 0x05 ∷ 0x03 ∷ 0x05 ∷ 0x04 ∷ 0x02 ∷ 0x02 ∷ 0x03 ∷ 0x00 ∷ []
 
 -- CLOCK 1, CLOCK 4, ASYNC 1 m, NEXT; the child NEXT.
 abbrev lending : ℕ → List ℕ
@@ -94,34 +94,34 @@ naming =
     }
     -- CLOCK under names 2 and 5; RESUME of the second leaves the first as it was.
     ∷ record {
-      table = twoClocks;
+      table = two_clocks;
       order = replicate 3 0;
       answers = replicate 3 running;
-      after = written 3 2 [] (activity Running 0 0 (bottom 6 0 ∷ []) (free 2 ++ (holdOn 0 0 Live ∷ free 2 ++ (holdOn 0 1 Quiesced ∷ []))) [] ∷ []) [];
+      after = written 3 2 [] (activity Running 0 0 (bottom 6 0 ∷ []) (free 2 ++ (hold_on 0 0 Live ∷ free 2 ++ (hold_on 0 1 Quiesced ∷ []))) [] ∷ []) [];
     }
     -- DROP of the first leaves the second as it was; the next clock has the next number.
     ∷ record {
-      table = twoClocks;
+      table = two_clocks;
       order = replicate 5 0;
       answers = replicate 5 running;
-      after = written 5 3 [] (activity Running 0 0 (bottom 10 0 ∷ []) (free 3 ++ (holdOn 0 2 Live ∷ noHold ∷ holdOn 0 1 Quiesced ∷ [])) [] ∷ []) [];
+      after = written 5 3 [] (activity Running 0 0 (bottom 10 0 ∷ []) (free 3 ++ (hold_on 0 2 Live ∷ no_hold ∷ hold_on 0 1 Quiesced ∷ [])) [] ∷ []) [];
     }
     -- The other way round: CLOCK 1, CLOCK 6, RESUME 1, DROP 6.
     ∷ record {
       table = 0x01 ∷ 0x02 ∷ 0x01 ∷ 0x02 ∷ 0x06 ∷ 0x03 ∷ 0x01 ∷ 0x04 ∷ 0x06 ∷ 0x00 ∷ [];
       order = replicate 4 0;
       answers = replicate 4 running;
-      after = written 4 2 [] (activity Running 0 0 (bottom 8 0 ∷ []) (free 1 ++ (holdOn 0 0 Quiesced ∷ [])) [] ∷ []) [];
+      after = written 4 2 [] (activity Running 0 0 (bottom 8 0 ∷ []) (free 1 ++ (hold_on 0 0 Quiesced ∷ [])) [] ∷ []) [];
     }
     -- Main waits on the second of two own clocks, under name 4; then both its phases rise, and the child's stays.
     ∷ record {
       table = lending 0x10;
       order = 0 ∷ 0 ∷ 0 ∷ 0 ∷ 0 ∷ 1 ∷ 0 ∷ [];
-      answers = running ∷ running ∷ running ∷ atBarrier ∷ waits ∷ atBarrier ∷ running ∷ [];
+      answers = running ∷ running ∷ running ∷ at_barrier ∷ waits ∷ at_barrier ∷ running ∷ [];
       after =
           written 6 2 []
-          (activity Running 0 0 (bottom 8 0 ∷ []) (free 1 ++ (holdOn 1 0 Live ∷ free 2 ++ (holdOn 1 1 Live ∷ []))) []
-          ∷ activity AtBarrier 0 0 (bottom 0 1 ∷ []) (free 4 ++ (holdOn 0 1 Quiesced ∷ [])) []
+          (activity Running 0 0 (bottom 8 0 ∷ []) (free 1 ++ (hold_on 1 0 Live ∷ free 2 ++ (hold_on 1 1 Live ∷ []))) []
+          ∷ activity AtBarrier 0 0 (bottom 0 1 ∷ []) (free 4 ++ (hold_on 0 1 Quiesced ∷ [])) []
           ∷ [])
           [];
     }
@@ -129,11 +129,11 @@ naming =
     ∷ record {
       table = lending 0x02;
       order = 0 ∷ 0 ∷ 0 ∷ 0 ∷ 0 ∷ [];
-      answers = running ∷ running ∷ running ∷ atBarrier ∷ waits ∷ [];
+      answers = running ∷ running ∷ running ∷ at_barrier ∷ waits ∷ [];
       after =
           written 4 2 []
-          (activity AtBarrier 0 0 (bottom 7 0 ∷ []) (free 1 ++ (holdOn 0 0 Quiesced ∷ free 2 ++ (holdOn 0 1 Quiesced ∷ []))) []
-          ∷ activity Running 0 0 (bottom 0 1 ∷ []) (free 1 ++ (holdOn 0 0 Live ∷ [])) []
+          (activity AtBarrier 0 0 (bottom 7 0 ∷ []) (free 1 ++ (hold_on 0 0 Quiesced ∷ free 2 ++ (hold_on 0 1 Quiesced ∷ []))) []
+          ∷ activity Running 0 0 (bottom 0 1 ∷ []) (free 1 ++ (hold_on 0 0 Live ∷ [])) []
           ∷ [])
           [];
     }
@@ -141,11 +141,11 @@ naming =
     ∷ record {
       table = 0x02 ∷ 0x02 ∷ 0x07 ∷ 0x05 ∷ 0x01 ∷ 0x80 ∷ 0x01 ∷ 0x00 ∷ 0x01 ∷ 0x00 ∷ [];
       order = 0 ∷ 0 ∷ 0 ∷ 0 ∷ [];
-      answers = running ∷ running ∷ atBarrier ∷ waits ∷ [];
+      answers = running ∷ running ∷ at_barrier ∷ waits ∷ [];
       after =
           written 3 1 []
-          (activity AtBarrier 0 0 (bottom 5 0 ∷ []) (free 7 ++ (holdOn 0 0 Quiesced ∷ [])) []
-          ∷ activity Running 0 0 (bottom 0 1 ∷ []) (free 7 ++ (holdOn 0 0 Live ∷ [])) []
+          (activity AtBarrier 0 0 (bottom 5 0 ∷ []) (free 7 ++ (hold_on 0 0 Quiesced ∷ [])) []
+          ∷ activity Running 0 0 (bottom 0 1 ∷ []) (free 7 ++ (hold_on 0 0 Live ∷ [])) []
           ∷ [])
           [];
     }
@@ -153,11 +153,11 @@ naming =
     ∷ record {
       table = 0x02 ∷ 0x02 ∷ 0x01 ∷ 0x02 ∷ 0x04 ∷ 0x05 ∷ 0x01 ∷ 0x02 ∷ 0x04 ∷ 0x01 ∷ 0x01 ∷ 0x00 ∷ 0x01 ∷ 0x00 ∷ [];
       order = replicate 6 0;
-      answers = replicate 4 running ++ (atBarrier ∷ running ∷ []);
+      answers = replicate 4 running ++ (at_barrier ∷ running ∷ []);
       after =
           written 6 2 []
-          (activity Running 0 0 (bottom 10 0 ∷ []) (free 4 ++ (holdOn 1 1 Live ∷ [])) []
-          ∷ activity Running 0 0 (bottom 0 1 ∷ []) (free 1 ++ (holdOn 0 0 Live ∷ [])) []
+          (activity Running 0 0 (bottom 10 0 ∷ []) (free 4 ++ (hold_on 1 1 Live ∷ [])) []
+          ∷ activity Running 0 0 (bottom 0 1 ∷ []) (free 1 ++ (hold_on 0 0 Live ∷ [])) []
           ∷ [])
           [];
     }
@@ -165,14 +165,14 @@ naming =
     ∷ record {
       table = resumed;
       order = replicate 4 0;
-      answers = running ∷ running ∷ running ∷ atBarrier ∷ [];
-      after = written 4 1 [] (activity AtBarrier 0 0 (bottom 6 0 ∷ []) (free 2 ++ (holdOn 0 0 Quiesced ∷ [])) [] ∷ []) [];
+      answers = running ∷ running ∷ running ∷ at_barrier ∷ [];
+      after = written 4 1 [] (activity AtBarrier 0 0 (bottom 6 0 ∷ []) (free 2 ++ (hold_on 0 0 Quiesced ∷ [])) [] ∷ []) [];
     }
     ∷ record {
       table = resumed;
       order = replicate 5 0;
-      answers = running ∷ running ∷ running ∷ atBarrier ∷ running ∷ [];
-      after = written 5 1 [] (activity Running 0 0 (bottom 7 0 ∷ []) (free 2 ++ (holdOn 1 0 Live ∷ [])) [] ∷ []) [];
+      answers = running ∷ running ∷ running ∷ at_barrier ∷ running ∷ [];
+      after = written 5 1 [] (activity Running 0 0 (bottom 7 0 ∷ []) (free 2 ++ (hold_on 1 0 Live ∷ [])) [] ∷ []) [];
     }
     ∷ []
 
@@ -187,11 +187,11 @@ abbrev breach : List ℕ → ℕ → Fault → State → Run
 breach table before f after = record { table = table; order = replicate (before + 1) 0; answers = replicate before running ++ (faulted f ∷ []); after = after }
 
 -- CLOCK 7, RESUME 7, ACC 2 0, and the command given under name 2.
-abbrev quiescedReader : ℕ → List ℕ
-quiescedReader op = 0x01 ∷ 0x02 ∷ 0x07 ∷ 0x03 ∷ 0x07 ∷ 0x08 ∷ 0x02 ∷ 0x00 ∷ op ∷ 0x02 ∷ 0x00 ∷ []
+abbrev quiesced_reader : ℕ → List ℕ
+quiesced_reader op = 0x01 ∷ 0x02 ∷ 0x07 ∷ 0x03 ∷ 0x07 ∷ 0x08 ∷ 0x02 ∷ 0x00 ∷ op ∷ 0x02 ∷ 0x00 ∷ []
 
-abbrev quiescedReads : State
-quiescedReads = written 4 1 [] (activity (Faulted F7) 0 0 [] [] (0 ∷ 0 ∷ 1 ∷ []) ∷ []) (holding 0 Sum 0 ∷ [])
+abbrev quiesced_reads : State
+quiesced_reads = written 4 1 [] (activity (Faulted F7) 0 0 [] [] (0 ∷ 0 ∷ 1 ∷ []) ∷ []) (holding 0 Sum 0 ∷ [])
 
 unfoldable pub faulting : List Run
 faulting =
@@ -229,14 +229,14 @@ faulting =
           (holding 0 Sum 0 ∷ holding 4294967295 Minimum 0 ∷ holding 0 Maximum 1 ∷ []);
     }
     -- F7 by a quiesced clock under the last name: READ, RESET.
-    ∷ breach (quiescedReader 0x0A) 3 F7 quiescedReads
-    ∷ breach (quiescedReader 0x0B) 3 F7 quiescedReads
+    ∷ breach (quiesced_reader 0x0A) 3 F7 quiesced_reads
+    ∷ breach (quiesced_reader 0x0B) 3 F7 quiesced_reads
     -- Only the activity that steps can fault: the child waits while main stands at RESUME 5, and passes once main has faulted.
     ∷ record {
       table = 0x02 ∷ 0x02 ∷ 0x00 ∷ 0x05 ∷ 0x01 ∷ 0x01 ∷ 0x03 ∷ 0x05 ∷ 0x00 ∷ 0x01 ∷ 0x00 ∷ [];
       order = 0 ∷ 0 ∷ 1 ∷ 1 ∷ 0 ∷ 1 ∷ [];
-      answers = running ∷ running ∷ atBarrier ∷ waits ∷ faulted F1 ∷ running ∷ [];
-      after = written 5 1 [] (activity (Faulted F1) 0 0 [] [] [] ∷ activity Running 0 0 (bottom 1 1 ∷ []) (holdOn 1 0 Live ∷ []) [] ∷ []) [];
+      answers = running ∷ running ∷ at_barrier ∷ waits ∷ faulted F1 ∷ running ∷ [];
+      after = written 5 1 [] (activity (Faulted F1) 0 0 [] [] [] ∷ activity Running 0 0 (bottom 1 1 ∷ []) (hold_on 1 0 Live ∷ []) [] ∷ []) [];
     }
     -- No F3 in a REPEAT body alone: CLOCK 2, REPEAT 2 of ASYNC 2 4.
     ∷ record {
@@ -245,9 +245,9 @@ faulting =
       answers = replicate 5 running;
       after =
           written 5 1 []
-          (activity Running 0 0 (bottom 2 0 ∷ frameAt 3 1 1 0 ∷ []) (free 2 ++ (holdOn 0 0 Live ∷ [])) []
-          ∷ activity Running 0 0 (bottom 0 2 ∷ []) (free 2 ++ (holdOn 0 0 Live ∷ [])) []
-          ∷ activity Running 0 0 (bottom 0 2 ∷ []) (free 2 ++ (holdOn 0 0 Live ∷ [])) []
+          (activity Running 0 0 (bottom 2 0 ∷ frame_at 3 1 1 0 ∷ []) (free 2 ++ (hold_on 0 0 Live ∷ [])) []
+          ∷ activity Running 0 0 (bottom 0 2 ∷ []) (free 2 ++ (hold_on 0 0 Live ∷ [])) []
+          ∷ activity Running 0 0 (bottom 0 2 ∷ []) (free 2 ++ (hold_on 0 0 Live ∷ [])) []
           ∷ [])
           [];
     }
@@ -258,9 +258,9 @@ faulting =
       answers = running ∷ running ∷ running ∷ running ∷ waits ∷ [];
       after =
           written 4 1 []
-          (activity Running 0 0 (bottom 0 0 ∷ frameAt 3 1 0 1 ∷ []) [] []
-          ∷ activity Running 0 0 (bottom 5 2 ∷ []) (free 5 ++ (holdOn 0 0 Live ∷ [])) []
-          ∷ activity Running 1 0 (bottom 0 3 ∷ []) (free 5 ++ (holdOn 0 0 Live ∷ [])) []
+          (activity Running 0 0 (bottom 0 0 ∷ frame_at 3 1 0 1 ∷ []) [] []
+          ∷ activity Running 0 0 (bottom 5 2 ∷ []) (free 5 ++ (hold_on 0 0 Live ∷ [])) []
+          ∷ activity Running 1 0 (bottom 0 3 ∷ []) (free 5 ++ (hold_on 0 0 Live ∷ [])) []
           ∷ [])
           [];
     }
@@ -273,17 +273,17 @@ abbrev meetings : List ℕ
 meetings = 0x02 ∷ 0x02 ∷ 0x03 ∷ 0x05 ∷ 0x01 ∷ 0x08 ∷ 0x01 ∷ 0x01 ∷ 0x00 ∷ 0x01 ∷ 0x01 ∷ 0x00 ∷ []
 
 -- Main has passed the first; both have passed the second.
-abbrev firstMeeting : List ℕ
-firstMeeting = 0 ∷ 0 ∷ 0 ∷ 1 ∷ 0 ∷ []
+abbrev first_meeting : List ℕ
+first_meeting = 0 ∷ 0 ∷ 0 ∷ 1 ∷ 0 ∷ []
 
-abbrev secondMeeting : List ℕ
-secondMeeting = firstMeeting ++ (1 ∷ 0 ∷ 0 ∷ 1 ∷ 1 ∷ 0 ∷ [])
+abbrev second_meeting : List ℕ
+second_meeting = first_meeting ++ (1 ∷ 0 ∷ 0 ∷ 1 ∷ 1 ∷ 0 ∷ [])
 
-abbrev firstAnswers : List Answer
-firstAnswers = running ∷ running ∷ atBarrier ∷ atBarrier ∷ running ∷ []
+abbrev first_answers : List Answer
+first_answers = running ∷ running ∷ at_barrier ∷ at_barrier ∷ running ∷ []
 
-abbrev secondAnswers : List Answer
-secondAnswers = firstAnswers ++ (running ∷ atBarrier ∷ waits ∷ atBarrier ∷ running ∷ running ∷ [])
+abbrev second_answers : List Answer
+second_answers = first_answers ++ (running ∷ at_barrier ∷ waits ∷ at_barrier ∷ running ∷ running ∷ [])
 
 -- The commands of a line of five: ACC 2 0, ASYNC of the next, then the command given under name 2; each of the others but the last spawns the next, and ends.
 abbrev family : ℕ → List ℕ
@@ -317,23 +317,23 @@ affected =
     -- "Arrival quiesces all own clocks. Passing raises each own phase by one and makes each live." Two holders at one meeting and at two.
     record {
       table = meetings;
-      order = firstMeeting;
-      answers = firstAnswers;
+      order = first_meeting;
+      answers = first_answers;
       after =
           written 5 1 []
-          (activity Running 0 0 (bottom 6 0 ∷ []) (free 3 ++ (holdOn 1 0 Live ∷ [])) []
-          ∷ activity AtBarrier 0 0 (bottom 0 1 ∷ []) (free 3 ++ (holdOn 0 0 Quiesced ∷ [])) []
+          (activity Running 0 0 (bottom 6 0 ∷ []) (free 3 ++ (hold_on 1 0 Live ∷ [])) []
+          ∷ activity AtBarrier 0 0 (bottom 0 1 ∷ []) (free 3 ++ (hold_on 0 0 Quiesced ∷ [])) []
           ∷ [])
           [];
     }
     ∷ record {
       table = meetings;
-      order = firstMeeting ++ (1 ∷ []);
-      answers = firstAnswers ++ (running ∷ []);
+      order = first_meeting ++ (1 ∷ []);
+      answers = first_answers ++ (running ∷ []);
       after =
           written 6 1 []
-          (activity Running 0 0 (bottom 6 0 ∷ []) (free 3 ++ (holdOn 1 0 Live ∷ [])) []
-          ∷ activity Running 0 0 (bottom 1 1 ∷ []) (free 3 ++ (holdOn 1 0 Live ∷ [])) []
+          (activity Running 0 0 (bottom 6 0 ∷ []) (free 3 ++ (hold_on 1 0 Live ∷ [])) []
+          ∷ activity Running 0 0 (bottom 1 1 ∷ []) (free 3 ++ (hold_on 1 0 Live ∷ [])) []
           ∷ [])
           [];
     }
@@ -341,24 +341,24 @@ affected =
     ∷ record {
       table = 0x01 ∷ 0x02 ∷ 0x00 ∷ 0x01 ∷ 0x02 ∷ 0x01 ∷ 0x01 ∷ 0x00 ∷ [];
       order = replicate 6 0;
-      answers = running ∷ atBarrier ∷ running ∷ running ∷ atBarrier ∷ running ∷ [];
-      after = written 6 2 [] (activity Running 0 0 (bottom 6 0 ∷ []) (holdOn 2 0 Live ∷ holdOn 1 1 Live ∷ []) [] ∷ []) [];
+      answers = running ∷ at_barrier ∷ running ∷ running ∷ at_barrier ∷ running ∷ [];
+      after = written 6 2 [] (activity Running 0 0 (bottom 6 0 ∷ []) (hold_on 2 0 Live ∷ hold_on 1 1 Live ∷ []) [] ∷ []) [];
     }
     ∷ record {
       table = meetings;
-      order = secondMeeting;
-      answers = secondAnswers;
+      order = second_meeting;
+      answers = second_answers;
       after =
           written 10 1 []
-          (activity Running 0 0 (bottom 7 0 ∷ []) (free 3 ++ (holdOn 2 0 Live ∷ [])) []
-          ∷ activity Running 0 0 (bottom 2 1 ∷ []) (free 3 ++ (holdOn 2 0 Live ∷ [])) []
+          (activity Running 0 0 (bottom 7 0 ∷ []) (free 3 ++ (hold_on 2 0 Live ∷ [])) []
+          ∷ activity Running 0 0 (bottom 2 1 ∷ []) (free 3 ++ (hold_on 2 0 Live ∷ [])) []
           ∷ [])
           [];
     }
     ∷ record {
       table = meetings;
-      order = secondMeeting ++ (0 ∷ 1 ∷ 1 ∷ []);
-      answers = secondAnswers ++ (ended ∷ ended ∷ Refused 15 ∷ []);
+      order = second_meeting ++ (0 ∷ 1 ∷ 1 ∷ []);
+      answers = second_answers ++ (ended ∷ ended ∷ Refused 15 ∷ []);
       after = written 12 1 [] (activity Ended 0 0 [] [] [] ∷ activity Ended 0 0 [] [] [] ∷ []) [];
     }
     -- "the clocks of m under the same names, at the spawner's phase, live": CLOCK 1, NEXT, CLOCK 4, CLOCK 6, RESUME 4, ACC 3 1, PUT 8, ASYNC of names 1 and 6.
@@ -366,11 +366,11 @@ affected =
       table = 0x02 ∷ 0x02 ∷ 0x01 ∷ 0x01 ∷ 0x02 ∷ 0x04 ∷ 0x02 ∷ 0x06 ∷ 0x03 ∷ 0x04 ∷ 0x08 ∷ 0x03 ∷ 0x01 ∷ 0x0C ∷ 0x08 ∷ 0x00 ∷ 0x00 ∷ 0x00 ∷ 0x05
           ∷ 0x01 ∷ 0x42 ∷ 0x00 ∷ 0x00 ∷ [];
       order = replicate 9 0;
-      answers = running ∷ atBarrier ∷ replicate 7 running;
+      answers = running ∷ at_barrier ∷ replicate 7 running;
       after =
           written 9 3 []
-          (activity Running 0 8 (bottom 20 0 ∷ []) (noHold ∷ holdOn 1 0 Live ∷ noHold ∷ noHold ∷ holdOn 0 1 Quiesced ∷ noHold ∷ holdOn 0 2 Live ∷ []) (0 ∷ 0 ∷ 0 ∷ 1 ∷ [])
-          ∷ activity Running 0 8 (bottom 0 1 ∷ []) (noHold ∷ holdOn 1 0 Live ∷ free 4 ++ (holdOn 0 2 Live ∷ [])) (0 ∷ 0 ∷ 0 ∷ 1 ∷ [])
+          (activity Running 0 8 (bottom 20 0 ∷ []) (no_hold ∷ hold_on 1 0 Live ∷ no_hold ∷ no_hold ∷ hold_on 0 1 Quiesced ∷ no_hold ∷ hold_on 0 2 Live ∷ []) (0 ∷ 0 ∷ 0 ∷ 1 ∷ [])
+          ∷ activity Running 0 8 (bottom 0 1 ∷ []) (no_hold ∷ hold_on 1 0 Live ∷ free 4 ++ (hold_on 0 2 Live ∷ [])) (0 ∷ 0 ∷ 0 ∷ 1 ∷ [])
           ∷ [])
           (holding 4294967295 Minimum 0 ∷ []);
     }
@@ -413,7 +413,7 @@ affected =
       answers = running ∷ running ∷ running ∷ running ∷ waits ∷ [];
       after =
           written 4 0 []
-          (activity Running 0 0 (bottom 3 0 ∷ frameAt 0 1 3 0 ∷ frameAt 3 2 0 2 ∷ []) [] []
+          (activity Running 0 0 (bottom 3 0 ∷ frame_at 0 1 3 0 ∷ frame_at 3 2 0 2 ∷ []) [] []
           ∷ activity Running 0 0 (bottom 0 3 ∷ []) [] []
           ∷ activity Running 0 0 (bottom 0 3 ∷ []) [] []
           ∷ [])
@@ -426,7 +426,7 @@ affected =
       answers = running ∷ running ∷ running ∷ running ∷ ended ∷ running ∷ [];
       after =
           written 6 0 []
-          (activity Running 0 0 (bottom 3 0 ∷ frameAt 2 1 3 0 ∷ []) [] [] ∷ activity Running 0 0 (bottom 0 3 ∷ []) [] [] ∷ activity Ended 0 0 [] [] [] ∷ [])
+          (activity Running 0 0 (bottom 3 0 ∷ frame_at 2 1 3 0 ∷ []) [] [] ∷ activity Running 0 0 (bottom 0 3 ∷ []) [] [] ∷ activity Ended 0 0 [] [] [] ∷ [])
           [];
     }
     ∷ record {
@@ -435,7 +435,7 @@ affected =
       answers = running ∷ running ∷ running ∷ running ∷ ended ∷ running ∷ running ∷ running ∷ [];
       after =
           written 8 0 []
-          (activity Running 0 0 (bottom 3 0 ∷ frameAt 0 1 2 0 ∷ frameAt 0 2 0 3 ∷ []) [] []
+          (activity Running 0 0 (bottom 3 0 ∷ frame_at 0 1 2 0 ∷ frame_at 0 2 0 3 ∷ []) [] []
           ∷ activity Running 0 0 (bottom 0 3 ∷ []) [] []
           ∷ activity Ended 0 0 [] [] []
           ∷ [])
@@ -462,10 +462,10 @@ affected =
           ∷ 0x01 ∷ 0x00 ∷ 0x09 ∷ 0x01 ∷ 0x0E ∷ 0x01 ∷ 0x0D ∷ 0x01 ∷ 0x0F ∷ 0x01 ∷ 0x10 ∷ 0x01 ∷ 0x0F ∷ 0x02 ∷ 0x01 ∷ 0x07 ∷ 0x00 ∷ 0x02 ∷ 0x07
           ∷ 0x01 ∷ 0x02 ∷ 0x06 ∷ 0x02 ∷ 0x00 ∷ 0x00 ∷ [];
       order = replicate 20 0;
-      answers = replicate 12 running ++ (atBarrier ∷ replicate 6 running ++ (waits ∷ []));
+      answers = replicate 12 running ++ (at_barrier ∷ replicate 6 running ++ (waits ∷ []));
       after =
           written 19 1 (0 ∷ 10 ∷ 5 ∷ [])
-          (activity Running 0 5 (bottom 0 0 ∷ frameAt 38 1 0 1 ∷ []) [] (0 ∷ 1 ∷ []) ∷ activity Running 0 0 (bottom 0 2 ∷ []) [] [] ∷ [])
+          (activity Running 0 5 (bottom 0 0 ∷ frame_at 38 1 0 1 ∷ []) [] (0 ∷ 1 ∷ []) ∷ activity Running 0 0 (bottom 0 2 ∷ []) [] [] ∷ [])
           (holding 5 Sum 0 ∷ []);
     }
     -- A second STORE, and second OFFERs: ACC 1 2, ACC 2 1, PUT 3, OFFER 1, STORE 6, PUT 9, OFFER 2, PUT 7, OFFER 1, OFFER 2, STORE 6.

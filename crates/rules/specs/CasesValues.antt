@@ -4,9 +4,9 @@ use Rattle.program.specs.Bodies.{program_of}
 use Rattle.rules.specs.declared.state.State.{State}
 use Rattle.rules.specs.Search.{list_from}
 use Rattle.rules.specs.State.{act, accumulator}
-use Rattle.rules.specs.Steps.{startState}
+use Rattle.rules.specs.Steps.{start_state}
 use Rattle.program.specs.Same.{same_list}
-use Rattle.rules.specs.Cases.{stateBy}
+use Rattle.rules.specs.Cases.{state_by}
 
 -- The spawned activities' hands, the first cells (the others are 0), and the made accumulators' values.
 pub record Valued : Type 0 where
@@ -17,20 +17,20 @@ pub record Valued : Type 0 where
   pub values : List ℕ
 
 -- The first entries are those given, the others 0.
-unfoldable pub beginsWith : List ℕ → List ℕ → Bool
-beginsWith [] [] = true
-beginsWith [] (y ∷ ys) = false
-beginsWith (x ∷ xs) [] = let r = beginsWith xs [] in eqb x 0 && r
-beginsWith (x ∷ xs) (y ∷ ys) = let r = beginsWith xs ys in eqb x y && r
+unfoldable pub begins_with : List ℕ → List ℕ → Bool
+begins_with [] [] = true
+begins_with [] (y ∷ ys) = false
+begins_with (x ∷ xs) [] = let r = begins_with xs [] in eqb x 0 && r
+begins_with (x ∷ xs) (y ∷ ys) = let r = begins_with xs ys in eqb x y && r
 
 unfoldable pub leaves : State → Valued → Bool
 leaves s c =
     same_list (list_from s.activities 0 (λ i. (act s i).register)) c.hands
-    && (beginsWith s.cells c.cells && same_list (list_from s.accumulators 0 (λ n. (accumulator s n).value)) c.values)
+    && (begins_with s.cells c.cells && same_list (list_from s.accumulators 0 (λ n. (accumulator s n).value)) c.values)
 
-unfoldable pub allLeave : List Valued → Bool
-allLeave [] = true
-allLeave (c ∷ cs) = let r = allLeave cs in leaves (stateBy (program_of c.table) startState c.order) c && r
+unfoldable pub all_leave : List Valued → Bool
+all_leave [] = true
+all_leave (c ∷ cs) = let r = all_leave cs in leaves (state_by (program_of c.table) start_state c.order) c && r
 
 unfoldable pub valued : List Valued
 valued =

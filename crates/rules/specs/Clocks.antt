@@ -5,7 +5,7 @@ use Rattle.rules.specs.declared.state.Registration.TheVariants.{Free, Live, Quie
 use Rattle.rules.specs.declared.state.Hold.{Hold}
 use Rattle.rules.specs.declared.state.Activity.{Activity}
 use Rattle.rules.specs.declared.state.State.{State}
-use Rattle.rules.specs.Search.{someBelow}
+use Rattle.rules.specs.Search.{some_below}
 use Rattle.rules.specs.State.{act, hold}
 
 abbrev pub is_held : Registration → Bool
@@ -13,29 +13,29 @@ is_held Free = false
 is_held Live = true
 is_held Quiesced = true
 
-abbrev pub isLive : Registration → Bool
-isLive Free = false
-isLive Live = true
-isLive Quiesced = false
+abbrev pub is_live : Registration → Bool
+is_live Free = false
+is_live Live = true
+is_live Quiesced = false
 
 -- The activity holds a clock under name k.
 abbrev pub holds : Activity → ℕ → Bool
 holds a k = is_held (hold a k).registration
 
-unfoldable pub holdsSome : Activity → Bool
-holdsSome a = someBelow 8 (holds a)
+unfoldable pub holds_some : Activity → Bool
+holds_some a = some_below 8 (holds a)
 
 -- A hold of clock c that keeps phase p from being quiescent: in an earlier phase, or live in p.
-unfoldable pub isBehind : ℕ → ℕ → Hold → Bool
-isBehind c p h = is_held h.registration && (eqb h.clock c && (ltb h.phase p || (eqb h.phase p && isLive h.registration)))
+unfoldable pub is_behind : ℕ → ℕ → Hold → Bool
+is_behind c p h = is_held h.registration && (eqb h.clock c && (ltb h.phase p || (eqb h.phase p && is_live h.registration)))
 
 -- Activity x has such a hold.
 unfoldable pub behind : State → ℕ → ℕ → ℕ → Bool
-behind s c p x = someBelow 8 (λ k. isBehind c p (hold (act s x) k))
+behind s c p x = some_below 8 (λ k. is_behind c p (hold (act s x) k))
 
 -- "Phase p of a clock is quiescent when no holder is in an earlier phase, or live in p."
 unfoldable pub quiescent : State → ℕ → ℕ → Bool
-quiescent s c p = not (someBelow s.activities (behind s c p))
+quiescent s c p = not (some_below s.activities (behind s c p))
 
 -- RESUME and arrival: "quiesce on c; again changes nothing"
 abbrev pub quiesced : Registration → Registration

@@ -13,15 +13,15 @@ use Rattle.rules.specs.declared.state.Hold.{Hold}
 use Rattle.rules.specs.declared.state.Activity.{Activity}
 use Rattle.rules.specs.declared.state.Accumulator.{Accumulator}
 use Rattle.rules.specs.declared.state.State.{State}
-use Rattle.rules.specs.State.{operatorOf, noFrame, noHold, noFrames, noHolds, top, hold, accumulator, isAtBarrier}
+use Rattle.rules.specs.State.{operator_of, no_frame, no_hold, no_frames, no_holds, top, hold, accumulator, is_at_barrier}
 use Rattle.rules.specs.Clocks.{quiesce, pass}
-use Rattle.rules.specs.Tree.{nextOffset}
-use Rattle.rules.specs.Faults.{Env, bit, numberUnder}
+use Rattle.rules.specs.Tree.{next_offset}
+use Rattle.rules.specs.Faults.{Env, bit, number_under}
 
 -- AN ACTIVITY WITH SOME FIELDS CHANGED
 
-abbrev pub withFrames : Activity → ℕ → List Frame → Activity
-withFrames a depth frames =
+abbrev pub with_frames : Activity → ℕ → List Frame → Activity
+with_frames a depth frames =
     record {
       register = a.register;
       frames = frames;
@@ -32,8 +32,8 @@ withFrames a depth frames =
       depth = depth;
     }
 
-abbrev pub withHolds : Activity → Status → List Hold → Activity
-withHolds a status holds =
+abbrev pub with_holds : Activity → Status → List Hold → Activity
+with_holds a status holds =
     record {
       register = a.register;
       frames = a.frames;
@@ -44,8 +44,8 @@ withHolds a status holds =
       depth = a.depth;
     }
 
-abbrev pub withRegister : Activity → ℕ → Activity
-withRegister a register =
+abbrev pub with_register : Activity → ℕ → Activity
+with_register a register =
     record {
       register = register;
       frames = a.frames;
@@ -56,8 +56,8 @@ withRegister a register =
       depth = a.depth;
     }
 
-abbrev pub withNames : Activity → List ℕ → Activity
-withNames a names =
+abbrev pub with_names : Activity → List ℕ → Activity
+with_names a names =
     record {
       register = a.register;
       frames = a.frames;
@@ -73,8 +73,8 @@ abbrev pub stopped : Activity → Status → Activity
 stopped a status =
     record {
       register = a.register;
-      frames = noFrames;
-      holds = noHolds;
+      frames = no_frames;
+      holds = no_holds;
       accumulators = a.accumulators;
       status = status;
       spawner = a.spawner;
@@ -84,15 +84,15 @@ stopped a status =
 -- THE STACK
 
 abbrev pub with_top : Activity → Frame → Activity
-with_top a f = withFrames a a.depth (set a.frames (a.depth - 1) f)
+with_top a f = with_frames a a.depth (set a.frames (a.depth - 1) f)
 
 -- The top body goes on after its command.
 unfoldable pub past : Program → Activity → Activity
-past p a = with_top a (record { offset = nextOffset p (top a); body = (top a).body; runs = (top a).runs; first = (top a).first })
+past p a = with_top a (record { offset = next_offset p (top a); body = (top a).body; runs = (top a).runs; first = (top a).first })
 
 -- A body begins on top.
 unfoldable pub pushed : Activity → ℕ → ℕ → ℕ → Activity
-pushed a b runs first = withFrames a (a.depth + 1) (set a.frames a.depth (record { offset = 0; body = b; runs = runs; first = first }))
+pushed a b runs first = with_frames a (a.depth + 1) (set a.frames a.depth (record { offset = 0; body = b; runs = runs; first = first }))
 
 -- The top body runs again.
 unfoldable pub again : Activity → Activity
@@ -100,7 +100,7 @@ again a = with_top a (record { offset = 0; body = (top a).body; runs = (top a).r
 
 -- The top body is gone, and the one below "goes on after the command".
 unfoldable pub popped : Program → Activity → Activity
-popped p a = past p (withFrames a (a.depth - 1) (set a.frames (a.depth - 1) noFrame))
+popped p a = past p (with_frames a (a.depth - 1) (set a.frames (a.depth - 1) no_frame))
 
 -- COMMANDS
 
@@ -115,17 +115,17 @@ end_of p a =
 
 -- "Arrival quiesces all own clocks. Passing raises each own phase by one and makes each live."
 unfoldable pub next_of : Program → Activity → Bool → Activity
-next_of p a false = withHolds a AtBarrier (map quiesce a.holds)
-next_of p a true = past p (withHolds a Running (map pass a.holds))
+next_of p a false = with_holds a AtBarrier (map quiesce a.holds)
+next_of p a true = past p (with_holds a Running (map pass a.holds))
 
 -- "REPEAT 0 takes one step and runs nothing."
-unfoldable pub repeatOf : Program → Activity → ℕ → ℕ → Activity
-repeatOf p a zero b = past p a
-repeatOf p a (suc n) b = pushed a b (suc n) 0
+unfoldable pub repeat_of : Program → Activity → ℕ → ℕ → Activity
+repeat_of p a zero b = past p a
+repeat_of p a (suc n) b = pushed a b (suc n) 0
 
 -- "CHOOSE b runs b once if the hand is not 0, and takes one step in either case."
-unfoldable pub chooseOf : Program → Activity → ℕ → Activity
-chooseOf p a b =
+unfoldable pub choose_of : Program → Activity → ℕ → Activity
+choose_of p a b =
     let skipped = past p a in
     let begun = pushed a b 0 0 in
     cond (eqb a.register 0) skipped begun
@@ -133,14 +133,14 @@ chooseOf p a b =
 -- "the clocks of m under the same names, at the spawner's phase, live"; the first hold has name k
 unfoldable pub lent : ℕ → ℕ → List Hold → List Hold
 lent m k [] = []
-lent m k (h ∷ hs) = cond (bit m k) (record { phase = h.phase; clock = h.clock; registration = Live }) noHold ∷ lent m (suc k) hs
+lent m k (h ∷ hs) = cond (bit m k) (record { phase = h.phase; clock = h.clock; registration = Live }) no_hold ∷ lent m (suc k) hs
 
 -- "A spawned activity gets its spawner's hand, all accumulator names, and the clocks of m"
 unfoldable pub child : ℕ → Activity → ℕ → ℕ → Activity
 child i a b m =
     record {
       register = a.register;
-      frames = set noFrames 0 (record { offset = 0; body = b; runs = 0; first = 0 });
+      frames = set no_frames 0 (record { offset = 0; body = b; runs = 0; first = 0 });
       holds = lent m 0 a.holds;
       accumulators = a.accumulators;
       status = Running;
@@ -155,13 +155,13 @@ reduce Minimum x y = cond (leb x y) x y
 reduce Maximum x y = cond (leb x y) y x
 
 -- "A new accumulator holds 0, for minimum 4,294,967,295."
-abbrev pub newValue : Operator → ℕ
-newValue Sum = 0
-newValue Minimum = 4294967295
-newValue Maximum = 0
+abbrev pub new_value : Operator → ℕ
+new_value Sum = 0
+new_value Minimum = 4294967295
+new_value Maximum = 0
 
-abbrev pub newAccumulator : ℕ → Operator → Accumulator
-newAccumulator i o = record { value = newValue o; owner = i; operator = o }
+abbrev pub new_accumulator : ℕ → Operator → Accumulator
+new_accumulator i o = record { value = new_value o; owner = i; operator = o }
 
 -- CELLS
 
@@ -175,9 +175,9 @@ pub record Touch : Type 0 where
   pub stores : List Stored
 
 -- What a cell holds after stores.
-unfoldable pub cellAfter : (ℕ → ℕ) → List Stored → ℕ → ℕ
-cellAfter cell [] d = cell d
-cellAfter cell (x ∷ xs) d = let r = cellAfter cell xs d in cond (eqb x.cell d) x.value r
+unfoldable pub cell_after : (ℕ → ℕ) → List Stored → ℕ → ℕ
+cell_after cell [] d = cell d
+cell_after cell (x ∷ xs) d = let r = cell_after cell xs d in cond (eqb x.cell d) x.value r
 
 abbrev pub storing : Touch → ℕ → ℕ → Touch
 storing t d v = record { register = t.register; stores = record { cell = d; value = v } ∷ t.stores }
@@ -197,16 +197,16 @@ touch cell t (Offer a) = t
 touch cell t (Read a) = t
 touch cell t (Reset a) = t
 touch cell t (Put v) = t
-touch cell t (Fetch d) = record { register = cellAfter cell t.stores d; stores = t.stores }
+touch cell t (Fetch d) = record { register = cell_after cell t.stores d; stores = t.stores }
 touch cell t (Store d) = storing t d t.register
-touch cell t (Add d) = storing t d ((cellAfter cell t.stores d + t.register) % 4294967296)
+touch cell t (Add d) = storing t d ((cell_after cell t.stores d + t.register) % 4294967296)
 touch cell t (Atom k) = t
 touch cell t (Choose b) = t
 
 -- ATOM k: "the next k commands, all 0D to 0F, in one step"
-unfoldable pub touchAll : (ℕ → ℕ) → Touch → List Command → Touch
-touchAll cell t [] = t
-touchAll cell t (c ∷ cs) = touchAll cell (touch cell t c) cs
+unfoldable pub touch_all : (ℕ → ℕ) → Touch → List Command → Touch
+touch_all cell t [] = t
+touch_all cell t (c ∷ cs) = touch_all cell (touch cell t c) cs
 
 -- EFFECTS
 
@@ -242,7 +242,7 @@ abbrev pub writing : Activity → Write → Effect
 writing a w = record { self = a; spawned = nobody; clocked = false; write = w; stores = [] }
 
 abbrev pub touching : Program → Activity → Touch → Effect
-touching p a t = record { self = past p (withRegister a t.register); spawned = nobody; clocked = false; write = keep; stores = t.stores }
+touching p a t = record { self = past p (with_register a t.register); spawned = nobody; clocked = false; write = keep; stores = t.stores }
 
 abbrev pub untouched : Activity → Touch
 untouched a = record { register = a.register; stores = [] }
@@ -250,23 +250,23 @@ untouched a = record { register = a.register; stores = [] }
 -- What a command does that activity i, which is a, stands on, with the commands inside it: those of an ATOM.
 unfoldable pub effect_of : Program → Env → ℕ → Activity → Command → List Command → Effect
 effect_of p e i a End inner = alone (end_of p a)
-effect_of p e i a Next inner = alone (next_of p a (isAtBarrier a.status))
-effect_of p e i a (Clock c) inner = clocking (past p (withHolds a a.status (set a.holds c (record { phase = 0; clock = e.clock; registration = Live }))))
-effect_of p e i a (Resume c) inner = alone (past p (withHolds a a.status (set a.holds c (quiesce (hold a c)))))
-effect_of p e i a (Drop c) inner = alone (past p (withHolds a a.status (set a.holds c noHold)))
+effect_of p e i a Next inner = alone (next_of p a (is_at_barrier a.status))
+effect_of p e i a (Clock c) inner = clocking (past p (with_holds a a.status (set a.holds c (record { phase = 0; clock = e.clock; registration = Live }))))
+effect_of p e i a (Resume c) inner = alone (past p (with_holds a a.status (set a.holds c (quiesce (hold a c)))))
+effect_of p e i a (Drop c) inner = alone (past p (with_holds a a.status (set a.holds c no_hold)))
 effect_of p e i a (Async b m) inner = spawning (past p a) (child i a b m)
 effect_of p e i a (Finish b) inner = alone (pushed a b 0 e.first)
-effect_of p e i a (Repeat n b) inner = alone (repeatOf p a n b)
-effect_of p e i a (Acc n o) inner = writing (past p (withNames a (set a.accumulators n (e.accumulator + 1)))) (make (newAccumulator i (operatorOf o)))
-effect_of p e i a (Offer n) inner = writing (past p a) (offer (numberUnder a n) a.register)
-effect_of p e i a (Read n) inner = alone (past p (withRegister a (e.look (numberUnder a n)).value))
-effect_of p e i a (Reset n) inner = writing (past p a) (reset (numberUnder a n) a.register)
-effect_of p e i a (Put v) inner = alone (past p (withRegister a v))
+effect_of p e i a (Repeat n b) inner = alone (repeat_of p a n b)
+effect_of p e i a (Acc n o) inner = writing (past p (with_names a (set a.accumulators n (e.accumulator + 1)))) (make (new_accumulator i (operator_of o)))
+effect_of p e i a (Offer n) inner = writing (past p a) (offer (number_under a n) a.register)
+effect_of p e i a (Read n) inner = alone (past p (with_register a (e.look (number_under a n)).value))
+effect_of p e i a (Reset n) inner = writing (past p a) (reset (number_under a n) a.register)
+effect_of p e i a (Put v) inner = alone (past p (with_register a v))
 effect_of p e i a (Fetch d) inner = touching p a (touch e.cell (untouched a) (Fetch d))
 effect_of p e i a (Store d) inner = touching p a (touch e.cell (untouched a) (Store d))
 effect_of p e i a (Add d) inner = touching p a (touch e.cell (untouched a) (Add d))
-effect_of p e i a (Atom k) inner = touching p a (touchAll e.cell (untouched a) inner)
-effect_of p e i a (Choose b) inner = alone (chooseOf p a b)
+effect_of p e i a (Atom k) inner = touching p a (touch_all e.cell (untouched a) inner)
+effect_of p e i a (Choose b) inner = alone (choose_of p a b)
 
 -- "A fault ends the activity in that step, drops its clocks, changes nothing else but the steps taken"
 abbrev pub failing : Activity → Status → Effect
@@ -274,8 +274,8 @@ failing a status = alone (stopped a status)
 
 -- APPLYING AN EFFECT
 
-abbrev pub envOf : State → Env
-envOf s =
+abbrev pub env_of : State → Env
+env_of s =
     record {
       clock = s.clocks;
       accumulator = s.accumulators;
@@ -284,47 +284,47 @@ envOf s =
       cell = λ d. get_or s.cells d 0;
     }
 
-abbrev pub withSpawned : ℕ → List Activity → Spawned → List Activity
-withSpawned n acts nobody = acts
-withSpawned n acts (one c) = set acts n c
+abbrev pub with_spawned : ℕ → List Activity → Spawned → List Activity
+with_spawned n acts nobody = acts
+with_spawned n acts (one c) = set acts n c
 
-abbrev pub spawnedCount : ℕ → Spawned → ℕ
-spawnedCount n nobody = n
-spawnedCount n (one c) = n + 1
+abbrev pub spawned_count : ℕ → Spawned → ℕ
+spawned_count n nobody = n
+spawned_count n (one c) = n + 1
 
-abbrev pub clockedCount : ℕ → Bool → ℕ
-clockedCount n false = n
-clockedCount n true = n + 1
+abbrev pub clocked_count : ℕ → Bool → ℕ
+clocked_count n false = n
+clocked_count n true = n + 1
 
-abbrev pub writtenCount : ℕ → Write → ℕ
-writtenCount n keep = n
-writtenCount n (make c) = n + 1
-writtenCount n (offer x v) = n
-writtenCount n (reset x v) = n
+abbrev pub written_count : ℕ → Write → ℕ
+written_count n keep = n
+written_count n (make c) = n + 1
+written_count n (offer x v) = n
+written_count n (reset x v) = n
 
-abbrev pub withValue : Accumulator → ℕ → Accumulator
-withValue c v = record { value = v; owner = c.owner; operator = c.operator }
+abbrev pub with_value : Accumulator → ℕ → Accumulator
+with_value c v = record { value = v; owner = c.owner; operator = c.operator }
 
-abbrev pub withWritten : State → Write → List Accumulator
-withWritten s keep = s.accs
-withWritten s (make c) = set s.accs s.accumulators c
-withWritten s (offer x v) = set s.accs x (withValue (accumulator s x) (reduce (accumulator s x).operator (accumulator s x).value v))
-withWritten s (reset x v) = set s.accs x (withValue (accumulator s x) v)
+abbrev pub with_written : State → Write → List Accumulator
+with_written s keep = s.accs
+with_written s (make c) = set s.accs s.accumulators c
+with_written s (offer x v) = set s.accs x (with_value (accumulator s x) (reduce (accumulator s x).operator (accumulator s x).value v))
+with_written s (reset x v) = set s.accs x (with_value (accumulator s x) v)
 
 -- The stores put into the cells, the oldest first: it stands last in the list.
-unfoldable pub withStores : List ℕ → List Stored → List ℕ
-withStores cells [] = cells
-withStores cells (x ∷ xs) = set (withStores cells xs) x.cell x.value
+unfoldable pub with_stores : List ℕ → List Stored → List ℕ
+with_stores cells [] = cells
+with_stores cells (x ∷ xs) = set (with_stores cells xs) x.cell x.value
 
 -- "Activities, clocks and accumulators are numbered in the order of creation". "The steps taken .. rise by one with each accepted step".
 unfoldable pub applied : State → ℕ → Effect → State
 applied s i e =
     record {
-      cells = withStores s.cells e.stores;
-      acts = withSpawned s.activities (set s.acts i e.self) e.spawned;
-      accs = withWritten s e.write;
+      cells = with_stores s.cells e.stores;
+      acts = with_spawned s.activities (set s.acts i e.self) e.spawned;
+      accs = with_written s e.write;
       steps = s.steps + 1;
-      activities = spawnedCount s.activities e.spawned;
-      clocks = clockedCount s.clocks e.clocked;
-      accumulators = writtenCount s.accumulators e.write;
+      activities = spawned_count s.activities e.spawned;
+      clocks = clocked_count s.clocks e.clocked;
+      accumulators = written_count s.accumulators e.write;
     }

@@ -3,7 +3,7 @@ use Rattle.std.specs.Prelude.{ℕ, ◌+◌, List, [], ◌∷◌, Bool, true, fal
 use Rattle.program.specs.declared.command.Command.{Command}
 use Rattle.program.specs.Command.{opcode, named}
 use Rattle.program.specs.Bodies.{Program, program_of}
-use Rattle.program.specs.Count.{tally, ownWork}
+use Rattle.program.specs.Count.{tally, own_work}
 use Rattle.rules.specs.declared.state.Activity.{Activity}
 use Rattle.rules.specs.declared.state.Status.TheVariants.{Running, AtBarrier, Ended, Faulted}
 use Rattle.rules.specs.declared.state.State.{State}
@@ -11,52 +11,52 @@ use Rattle.rules.specs.declared.answer.Answer.{Answer}
 use Rattle.rules.specs.declared.answer.Answer.TheVariants.{Accepted, Refused}
 use Rattle.rules.specs.Search.{all_below}
 use Rattle.rules.specs.State.{act, ended}
-use Rattle.rules.specs.Steps.{Limits, at, start, step, awaitedCount}
+use Rattle.rules.specs.Steps.{Limits, at, start, step, awaited_count}
 
 -- "each later one the state that the step before returned, turned down or not"
 unfoldable pub run_from : Limits → List ℕ → State → List ℕ → State
 run_from l t s [] = s
 run_from l t s (i ∷ order) = run_from l t (step l t s i).state order
 
-unfoldable pub answersFrom : Limits → List ℕ → State → List ℕ → List Answer
-answersFrom l t s [] = []
-answersFrom l t s (i ∷ order) = (step l t s i).answer ∷ answersFrom l t (step l t s i).state order
+unfoldable pub answers_from : Limits → List ℕ → State → List ℕ → List Answer
+answers_from l t s [] = []
+answers_from l t s (i ∷ order) = (step l t s i).answer ∷ answers_from l t (step l t s i).state order
 
 -- How many the activity of each step waits for when the step is called.
-unfoldable pub awaitedFrom : Limits → List ℕ → State → List ℕ → List ℕ
-awaitedFrom l t s [] = []
-awaitedFrom l t s (i ∷ order) = awaitedCount l t s i ∷ awaitedFrom l t (step l t s i).state order
+unfoldable pub awaited_from : Limits → List ℕ → State → List ℕ → List ℕ
+awaited_from l t s [] = []
+awaited_from l t s (i ∷ order) = awaited_count l t s i ∷ awaited_from l t (step l t s i).state order
 
 -- "The first step is handed the start state". The state at the last point of a run, its answers, and how many each step waits for.
 unfoldable pub run : Limits → List ℕ → List ℕ → State
 run l t order = run_from l t (start l t).state order
 
 unfoldable pub answers : Limits → List ℕ → List ℕ → List Answer
-answers l t order = answersFrom l t (start l t).state order
+answers l t order = answers_from l t (start l t).state order
 
 unfoldable pub awaiteds : Limits → List ℕ → List ℕ → List ℕ
-awaiteds l t order = awaitedFrom l t (start l t).state order
+awaiteds l t order = awaited_from l t (start l t).state order
 
 -- "A step is accepted if its answer is a step or a fault."
-abbrev pub isAccepted : Answer → Bool
-isAccepted (Accepted status) = true
-isAccepted (Refused n) = false
+abbrev pub is_accepted : Answer → Bool
+is_accepted (Accepted status) = true
+is_accepted (Refused n) = false
 
-abbrev pub isFault : Answer → Bool
-isFault (Accepted Running) = false
-isFault (Accepted AtBarrier) = false
-isFault (Accepted Ended) = false
-isFault (Accepted (Faulted f)) = true
-isFault (Refused n) = false
+abbrev pub is_fault : Answer → Bool
+is_fault (Accepted Running) = false
+is_fault (Accepted AtBarrier) = false
+is_fault (Accepted Ended) = false
+is_fault (Accepted (Faulted f)) = true
+is_fault (Refused n) = false
 
 -- "What a run has taken is the number of its accepted steps"
 unfoldable pub taken : List Answer → ℕ
 taken [] = 0
-taken (a ∷ more) = cond (isAccepted a) 1 0 + taken more
+taken (a ∷ more) = cond (is_accepted a) 1 0 + taken more
 
-unfoldable pub someFault : List Answer → Bool
-someFault [] = false
-someFault (a ∷ more) = isFault a || someFault more
+unfoldable pub some_fault : List Answer → Bool
+some_fault [] = false
+some_fault (a ∷ more) = is_fault a || some_fault more
 
 -- "A run is finished when every spawned activity has ended."
 unfoldable pub finished : State → Bool
@@ -70,21 +70,21 @@ skips a c = eqb (opcode c) 0x11 && eqb a.register 0
 
 -- The work that a step of activity i spares: that of the body which its CHOOSE does not run.
 unfoldable pub spares : Program → State → ℕ → ℕ
-spares p s i = cond (skips (act s i) (at p s i).command) (tally ownWork p (named (at p s i).command)) 0
+spares p s i = cond (skips (act s i) (at p s i).command) (tally own_work p (named (at p s i).command)) 0
 
 -- The work that the accepted steps spare.
-unfoldable pub sparedFrom : Limits → List ℕ → State → List ℕ → ℕ
-sparedFrom l t s [] = 0
-sparedFrom l t s (i ∷ order) = cond (isAccepted (step l t s i).answer) (spares (program_of t) s i) 0 + sparedFrom l t (step l t s i).state order
+unfoldable pub spared_from : Limits → List ℕ → State → List ℕ → ℕ
+spared_from l t s [] = 0
+spared_from l t s (i ∷ order) = cond (is_accepted (step l t s i).answer) (spares (program_of t) s i) 0 + spared_from l t (step l t s i).state order
 
 -- "each CHOOSE step taken in it ran its body"
-unfoldable pub allRanFrom : Limits → List ℕ → State → List ℕ → Bool
-allRanFrom l t s [] = true
-allRanFrom l t s (i ∷ order) = not (isAccepted (step l t s i).answer && skips (act s i) (at (program_of t) s i).command) && allRanFrom l t (step l t s i).state order
+unfoldable pub all_ran_from : Limits → List ℕ → State → List ℕ → Bool
+all_ran_from l t s [] = true
+all_ran_from l t s (i ∷ order) = not (is_accepted (step l t s i).answer && skips (act s i) (at (program_of t) s i).command) && all_ran_from l t (step l t s i).state order
 
 -- The same of a whole run.
 unfoldable pub spared : Limits → List ℕ → List ℕ → ℕ
-spared l t order = sparedFrom l t (start l t).state order
+spared l t order = spared_from l t (start l t).state order
 
-unfoldable pub allRan : Limits → List ℕ → List ℕ → Bool
-allRan l t order = allRanFrom l t (start l t).state order
+unfoldable pub all_ran : Limits → List ℕ → List ℕ → Bool
+all_ran l t order = all_ran_from l t (start l t).state order

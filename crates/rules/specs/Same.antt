@@ -10,48 +10,48 @@ use Rattle.rules.specs.declared.state.Accumulator.{Accumulator}
 use Rattle.rules.specs.declared.state.State.{State}
 use Rattle.rules.specs.declared.answer.Answer.{Answer}
 use Rattle.rules.specs.declared.answer.Answer.TheVariants.{Accepted, Refused}
-use Rattle.rules.specs.State.{faultNumber, registrationNumber, operatorNumber}
+use Rattle.rules.specs.State.{fault_number, registration_number, operator_number}
 
 -- A number of its own for each status and each answer.
-abbrev statusCode : Status → ℕ
-statusCode Running = 0
-statusCode AtBarrier = 1
-statusCode Ended = 2
-statusCode (Faulted f) = 2 + faultNumber f
+abbrev status_code : Status → ℕ
+status_code Running = 0
+status_code AtBarrier = 1
+status_code Ended = 2
+status_code (Faulted f) = 2 + fault_number f
 
-abbrev answerCode : Answer → ℕ
-answerCode (Accepted status) = statusCode status
-answerCode (Refused n) = 100 + n
+abbrev answer_code : Answer → ℕ
+answer_code (Accepted status) = status_code status
+answer_code (Refused n) = 100 + n
 
-abbrev pub sameAnswer : Answer → Answer → Bool
-sameAnswer a b = eqb (answerCode a) (answerCode b)
+abbrev pub same_answer : Answer → Answer → Bool
+same_answer a b = eqb (answer_code a) (answer_code b)
 
 -- The numbers of each part.
-abbrev frameNumbers : Frame → List ℕ
-frameNumbers f = f.offset ∷ f.body ∷ f.runs ∷ f.first ∷ []
+abbrev frame_numbers : Frame → List ℕ
+frame_numbers f = f.offset ∷ f.body ∷ f.runs ∷ f.first ∷ []
 
-abbrev holdNumbers : Hold → List ℕ
-holdNumbers h = h.phase ∷ h.clock ∷ registrationNumber h.registration ∷ []
+abbrev hold_numbers : Hold → List ℕ
+hold_numbers h = h.phase ∷ h.clock ∷ registration_number h.registration ∷ []
 
-abbrev accumulatorNumbers : Accumulator → List ℕ
-accumulatorNumbers c = c.value ∷ c.owner ∷ operatorNumber c.operator ∷ []
+abbrev accumulator_numbers : Accumulator → List ℕ
+accumulator_numbers c = c.value ∷ c.owner ∷ operator_number c.operator ∷ []
 
-unfoldable pub activityNumbers : Activity → List (List ℕ)
-activityNumbers a =
-    (a.register ∷ statusCode a.status ∷ a.spawner ∷ a.depth ∷ [])
+unfoldable pub activity_numbers : Activity → List (List ℕ)
+activity_numbers a =
+    (a.register ∷ status_code a.status ∷ a.spawner ∷ a.depth ∷ [])
     ∷ a.accumulators
-    ∷ map frameNumbers a.frames
-    ++ map holdNumbers a.holds
+    ∷ map frame_numbers a.frames
+    ++ map hold_numbers a.holds
 
-unfoldable pub sameActivities : List Activity → List Activity → Bool
-sameActivities [] [] = true
-sameActivities [] (y ∷ ys) = false
-sameActivities (x ∷ xs) [] = false
-sameActivities (x ∷ xs) (y ∷ ys) = let r = sameActivities xs ys in same_lists (activityNumbers x) (activityNumbers y) && r
+unfoldable pub same_activities : List Activity → List Activity → Bool
+same_activities [] [] = true
+same_activities [] (y ∷ ys) = false
+same_activities (x ∷ xs) [] = false
+same_activities (x ∷ xs) (y ∷ ys) = let r = same_activities xs ys in same_lists (activity_numbers x) (activity_numbers y) && r
 
 -- The steps and the counts, the cells, the accumulators.
-unfoldable pub sharedNumbers : State → List (List ℕ)
-sharedNumbers s = (s.steps ∷ s.activities ∷ s.clocks ∷ s.accumulators ∷ []) ∷ s.cells ∷ map accumulatorNumbers s.accs
+unfoldable pub shared_numbers : State → List (List ℕ)
+shared_numbers s = (s.steps ∷ s.activities ∷ s.clocks ∷ s.accumulators ∷ []) ∷ s.cells ∷ map accumulator_numbers s.accs
 
-unfoldable pub sameState : State → State → Bool
-sameState s t = same_lists (sharedNumbers s) (sharedNumbers t) && sameActivities s.acts t.acts
+unfoldable pub same_state : State → State → Bool
+same_state s t = same_lists (shared_numbers s) (shared_numbers t) && same_activities s.acts t.acts

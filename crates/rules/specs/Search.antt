@@ -2,9 +2,9 @@
 use Rattle.std.specs.Prelude.{ℕ, zero, suc, ◌+◌, ◌^◌, List, [], ◌∷◌, Bool, true, false, cond, ◌||◌, ◌&&◌, ltb, eqb}
 
 -- Some i below n passes.
-unfoldable pub someBelow : ℕ → (ℕ → Bool) → Bool
-someBelow zero f = false
-someBelow (suc n) f = let r = someBelow n f in f n || r
+unfoldable pub some_below : ℕ → (ℕ → Bool) → Bool
+some_below zero f = false
+some_below (suc n) f = let r = some_below n f in f n || r
 
 -- Every i below n passes.
 unfoldable pub all_below : ℕ → (ℕ → Bool) → Bool
@@ -12,14 +12,14 @@ all_below zero f = true
 all_below (suc n) f = let r = all_below n f in f n && r
 
 -- How many i below n pass.
-unfoldable pub countBelow : ℕ → (ℕ → Bool) → ℕ
-countBelow zero f = zero
-countBelow (suc n) f = cond (f n) 1 0 + countBelow n f
+unfoldable pub count_below : ℕ → (ℕ → Bool) → ℕ
+count_below zero f = zero
+count_below (suc n) f = cond (f n) 1 0 + count_below n f
 
 -- A number whose bit i is set where i passes, for the i below n.
-unfoldable pub bitsBelow : ℕ → (ℕ → Bool) → ℕ
-bitsBelow zero f = zero
-bitsBelow (suc n) f = bitsBelow n f + cond (f n) (2 ^ n) 0
+unfoldable pub bits_below : ℕ → (ℕ → Bool) → ℕ
+bits_below zero f = zero
+bits_below (suc n) f = bits_below n f + cond (f n) (2 ^ n) 0
 
 -- The list f k, f (k + 1), .. of n elements.
 unfoldable pub list_from : {A : Type 0} → ℕ → ℕ → (ℕ → A) → List A

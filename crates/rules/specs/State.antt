@@ -19,73 +19,73 @@ use Rattle.rules.specs.declared.answer.Answer.TheVariants.{Accepted, Refused}
 -- NUMBERS OF THE ENUMS
 
 -- "faulted with its number"
-abbrev pub faultNumber : Fault → ℕ
-faultNumber F1 = 1
-faultNumber F2 = 2
-faultNumber F3 = 3
-faultNumber F4 = 4
-faultNumber F5 = 5
-faultNumber F6 = 6
-faultNumber F7 = 7
-faultNumber F8 = 8
+abbrev pub fault_number : Fault → ℕ
+fault_number F1 = 1
+fault_number F2 = 2
+fault_number F3 = 3
+fault_number F4 = 4
+fault_number F5 = 5
+fault_number F6 = 6
+fault_number F7 = 7
+fault_number F8 = 8
 
 -- The fault of a number from 1 on.
-abbrev pub faultOf : ℕ → Fault
-faultOf n = get_or (F1 ∷ F2 ∷ F3 ∷ F4 ∷ F5 ∷ F6 ∷ F7 ∷ F8 ∷ []) (n - 1) F1
+abbrev pub fault_of : ℕ → Fault
+fault_of n = get_or (F1 ∷ F2 ∷ F3 ∷ F4 ∷ F5 ∷ F6 ∷ F7 ∷ F8 ∷ []) (n - 1) F1
 
 -- "0 not held, 1 live, 2 quiesced"
-abbrev pub registrationNumber : Registration → ℕ
-registrationNumber Free = 0
-registrationNumber Live = 1
-registrationNumber Quiesced = 2
+abbrev pub registration_number : Registration → ℕ
+registration_number Free = 0
+registration_number Live = 1
+registration_number Quiesced = 2
 
 -- "o is 0 sum modulo 2^32, 1 minimum, 2 maximum"
-abbrev pub operatorNumber : Operator → ℕ
-operatorNumber Sum = 0
-operatorNumber Minimum = 1
-operatorNumber Maximum = 2
+abbrev pub operator_number : Operator → ℕ
+operator_number Sum = 0
+operator_number Minimum = 1
+operator_number Maximum = 2
 
-abbrev pub operatorOf : ℕ → Operator
-operatorOf o = get_or (Sum ∷ Minimum ∷ Maximum ∷ []) o Sum
+abbrev pub operator_of : ℕ → Operator
+operator_of o = get_or (Sum ∷ Minimum ∷ Maximum ∷ []) o Sum
 
 -- "The answer is 0 for a step, 100 plus f for fault f, or the number above."
-abbrev pub statusAnswer : Status → ℕ
-statusAnswer Running = 0
-statusAnswer AtBarrier = 0
-statusAnswer Ended = 0
-statusAnswer (Faulted f) = 100 + faultNumber f
+abbrev pub status_answer : Status → ℕ
+status_answer Running = 0
+status_answer AtBarrier = 0
+status_answer Ended = 0
+status_answer (Faulted f) = 100 + fault_number f
 
-abbrev pub answerNumber : Answer → ℕ
-answerNumber (Accepted status) = statusAnswer status
-answerNumber (Refused n) = n
+abbrev pub answer_number : Answer → ℕ
+answer_number (Accepted status) = status_answer status
+answer_number (Refused n) = n
 
 -- UNUSED ENTRIES, ALL 0
 
-abbrev pub noFrame : Frame
-noFrame = record { offset = 0; body = 0; runs = 0; first = 0 }
+abbrev pub no_frame : Frame
+no_frame = record { offset = 0; body = 0; runs = 0; first = 0 }
 
-abbrev pub noHold : Hold
-noHold = record { phase = 0; clock = 0; registration = Free }
+abbrev pub no_hold : Hold
+no_hold = record { phase = 0; clock = 0; registration = Free }
 
-abbrev pub noFrames : List Frame
-noFrames = replicate 16 noFrame
+abbrev pub no_frames : List Frame
+no_frames = replicate 16 no_frame
 
-abbrev pub noHolds : List Hold
-noHolds = replicate 8 noHold
+abbrev pub no_holds : List Hold
+no_holds = replicate 8 no_hold
 
-abbrev pub noActivity : Activity
-noActivity = record { register = 0; frames = noFrames; holds = noHolds; accumulators = replicate 8 0; status = Running; spawner = 0; depth = 0 }
+abbrev pub no_activity : Activity
+no_activity = record { register = 0; frames = no_frames; holds = no_holds; accumulators = replicate 8 0; status = Running; spawner = 0; depth = 0 }
 
-abbrev pub noAccumulator : Accumulator
-noAccumulator = record { value = 0; owner = 0; operator = Sum }
+abbrev pub no_accumulator : Accumulator
+no_accumulator = record { value = 0; owner = 0; operator = Sum }
 
 -- "a state of zeros"
-abbrev pub zeroState : State
-zeroState =
+abbrev pub zero_state : State
+zero_state =
     record {
       cells = replicate 16 0;
-      acts = replicate 64 noActivity;
-      accs = replicate 16 noAccumulator;
+      acts = replicate 64 no_activity;
+      accs = replicate 16 no_accumulator;
       steps = 0;
       activities = 0;
       clocks = 0;
@@ -102,39 +102,39 @@ abbrev pub act : State → ℕ → Activity
 act s i = get_or s.acts i absent
 
 abbrev pub frame : Activity → ℕ → Frame
-frame a d = get_or a.frames d noFrame
+frame a d = get_or a.frames d no_frame
 
 abbrev pub top : Activity → Frame
 top a = frame a (a.depth - 1)
 
 abbrev pub hold : Activity → ℕ → Hold
-hold a k = get_or a.holds k noHold
+hold a k = get_or a.holds k no_hold
 
 abbrev pub accumulator : State → ℕ → Accumulator
-accumulator s n = get_or s.accs n noAccumulator
+accumulator s n = get_or s.accs n no_accumulator
 
 -- What stands under an accumulator name: 0 unbound, else the accumulator's number plus 1.
 abbrev pub bound : Activity → ℕ → ℕ
 bound a n = get_or a.accumulators n 0
 
 -- "A faulted activity counts as ended."
-abbrev pub isEnded : Status → Bool
-isEnded Running = false
-isEnded AtBarrier = false
-isEnded Ended = true
-isEnded (Faulted f) = true
+abbrev pub is_ended : Status → Bool
+is_ended Running = false
+is_ended AtBarrier = false
+is_ended Ended = true
+is_ended (Faulted f) = true
 
-abbrev pub isFaulted : Status → Bool
-isFaulted Running = false
-isFaulted AtBarrier = false
-isFaulted Ended = false
-isFaulted (Faulted f) = true
+abbrev pub is_faulted : Status → Bool
+is_faulted Running = false
+is_faulted AtBarrier = false
+is_faulted Ended = false
+is_faulted (Faulted f) = true
 
-abbrev pub isAtBarrier : Status → Bool
-isAtBarrier Running = false
-isAtBarrier AtBarrier = true
-isAtBarrier Ended = false
-isAtBarrier (Faulted f) = false
+abbrev pub is_at_barrier : Status → Bool
+is_at_barrier Running = false
+is_at_barrier AtBarrier = true
+is_at_barrier Ended = false
+is_at_barrier (Faulted f) = false
 
 abbrev pub ended : State → ℕ → Bool
-ended s i = isEnded (act s i).status
+ended s i = is_ended (act s i).status

@@ -1,8 +1,8 @@
 -- The calls: start, step, ready set, how many an activity waits for, and standing sheet, with the numbers for which each is turned down, in checking order.
 use Rattle.std.specs.Prelude.{ℕ, List, [], ◌∷◌, Bool, true, false, cond, ◌||◌, ◌&&◌, not, set, replicate, ltb, leb, eqb}
 use Rattle.program.specs.Bodies.{Located, Program, program_of}
-use Rattle.program.specs.Count.{workOf}
-use Rattle.program.specs.Table.{workLimit, number_of}
+use Rattle.program.specs.Count.{work_of}
+use Rattle.program.specs.Table.{work_limit, number_of}
 use Rattle.rules.specs.declared.state.Fault.TheVariants.{F8}
 use Rattle.rules.specs.declared.state.Status.TheVariants.{Running, Faulted}
 use Rattle.rules.specs.declared.state.Hold.{Hold}
@@ -11,14 +11,14 @@ use Rattle.rules.specs.declared.answer.Answer.{Answer}
 use Rattle.rules.specs.declared.answer.Answer.TheVariants.{Accepted, Refused}
 use Rattle.rules.specs.declared.answer.Stepped.{Stepped}
 use Rattle.rules.specs.declared.answer.Ready.{Ready}
-use Rattle.rules.specs.Search.{someBelow, bitsBelow, list_from}
-use Rattle.rules.specs.State.{faultNumber, faultOf, registrationNumber, noActivity, zeroState, act, top, hold, ended, noFrames}
+use Rattle.rules.specs.Search.{some_below, bits_below, list_from}
+use Rattle.rules.specs.State.{fault_number, fault_of, registration_number, no_activity, zero_state, act, top, hold, ended, no_frames}
 use Rattle.rules.specs.Clocks.{is_held}
 use Rattle.rules.specs.Tree.{here}
-use Rattle.rules.specs.Faults.{faultFor, spoilt}
-use Rattle.rules.specs.Waiting.{awaitedAt}
-use Rattle.rules.specs.Effects.{Spawned, nobody, one, Write, keep, make, offer, reset, Effect, withFrames, effect_of, failing, envOf, applied}
-use Rattle.rules.specs.WellFormed.{wellFormed}
+use Rattle.rules.specs.Faults.{fault_for, spoilt}
+use Rattle.rules.specs.Waiting.{awaited_at}
+use Rattle.rules.specs.Effects.{Spawned, nobody, one, Write, keep, make, offer, reset, Effect, with_frames, effect_of, failing, env_of, applied}
+use Rattle.rules.specs.WellFormed.{well_formed}
 
 -- The limits that a wider machine moves: the work of a table, and a phase.
 pub record Limits : Type 0 where
@@ -27,7 +27,7 @@ pub record Limits : Type 0 where
 
 -- "12. Work is above 65,535." "phases 65,535"
 abbrev pub base : Limits
-base = record { work = workLimit; phase = 65535 }
+base = record { work = work_limit; phase = 65535 }
 
 -- ONE ACTIVITY
 
@@ -37,12 +37,12 @@ at p s i = here p (top (act s i))
 
 -- The rule that its command breaches, 0 for none.
 unfoldable pub breach : Program → State → ℕ → ℕ
-breach p s i = faultFor p (envOf s) i (act s i) (at p s i).command
+breach p s i = fault_for p (env_of s) i (act s i) (at p s i).command
 
 -- How many activities it waits for. One that is unspawned or has ended waits for none; "Faults come before waiting."
 unfoldable pub awaited : Program → State → ℕ → ℕ
 awaited p s i =
-    let n = awaitedAt p s i (act s i) (at p s i).command in
+    let n = awaited_at p s i (act s i) (at p s i).command in
     cond (ltb i s.activities && (not (ended s i) && eqb (breach p s i) 0)) n 0
 
 -- "16. The activity waits." The number "is 0 exactly for an activity that doesn't wait."
@@ -51,14 +51,14 @@ waits p s i = ltb 0 (awaited p s i)
 
 -- The fault of its step, 0 for none: the breach, or F8, which alone comes after waiting.
 unfoldable pub fault : Program → State → ℕ → ℕ
-fault p s i = let b = breach p s i in cond (spoilt p s i (act s i) (at p s i).command) (faultNumber F8) b
+fault p s i = let b = breach p s i in cond (spoilt p s i (act s i) (at p s i).command) (fault_number F8) b
 
 -- What its step does.
 unfoldable pub effect : Program → State → ℕ → Effect
 effect p s i =
     let f = fault p s i in
-    let done = effect_of p (envOf s) i (act s i) (at p s i).command (at p s i).inner in
-    let failed = failing (act s i) (Faulted (faultOf f)) in
+    let done = effect_of p (env_of s) i (act s i) (at p s i).command (at p s i).inner in
+    let failed = failing (act s i) (Faulted (fault_of f)) in
     cond (eqb f 0) done failed
 
 -- NUMBERS 14 TO 17
@@ -83,7 +83,7 @@ exceeds l p s e =
     (spawns e.spawned && leb 64 s.activities)
     || ((e.clocked && leb 16 s.clocks)
     || ((makes e.write && leb 16 s.accumulators)
-    || (someBelow 8 (λ k. ltb l.phase (hold e.self k).phase) || leb (workOf p) s.steps)))
+    || (some_below 8 (λ k. ltb l.phase (hold e.self k).phase) || leb (work_of p) s.steps)))
 
 abbrev pub stepped : Answer → State → Stepped
 stepped answer s = record { answer = answer; state = s }
@@ -99,12 +99,12 @@ advance l p s i =
 -- THE CALLS
 
 -- "Activity 0 starts body 0 with hand 0; the 16 cells start at 0."
-abbrev pub startState : State
-startState =
+abbrev pub start_state : State
+start_state =
     record {
-      cells = zeroState.cells;
-      acts = set zeroState.acts 0 (withFrames noActivity 1 noFrames);
-      accs = zeroState.accs;
+      cells = zero_state.cells;
+      acts = set zero_state.acts 0 (with_frames no_activity 1 no_frames);
+      accs = zero_state.accs;
       steps = 0;
       activities = 1;
       clocks = 0;
@@ -113,61 +113,61 @@ startState =
 
 -- Numbers 1 to 13: the table's, then the state's.
 unfoldable pub unfit : Limits → ℕ → Program → State → ℕ
-unfit l number p s = cond (eqb number 0) (cond (wellFormed l.phase p s) 0 13) number
+unfit l number p s = cond (eqb number 0) (cond (well_formed l.phase p s) 0 13) number
 
 -- "the start 1 to 12"; "a state of zeros from the start"
-unfoldable pub startWith : ℕ → Stepped
-startWith number = cond (eqb number 0) (stepped (Accepted Running) startState) (stepped (Refused number) zeroState)
+unfoldable pub start_with : ℕ → Stepped
+start_with number = cond (eqb number 0) (stepped (Accepted Running) start_state) (stepped (Refused number) zero_state)
 
 unfoldable pub start : Limits → List ℕ → Stepped
-start l t = startWith (number_of l.work t)
+start l t = start_with (number_of l.work t)
 
 -- "The step tries 1 to 17"
-unfoldable pub stepWith : Limits → ℕ → Program → State → ℕ → Stepped
-stepWith l number p s i =
+unfoldable pub step_with : Limits → ℕ → Program → State → ℕ → Stepped
+step_with l number p s i =
     let n = unfit l number p s in
     let go = advance l p s i in
     cond (eqb n 0) go (stepped (Refused n) s)
 
 unfoldable pub step : Limits → List ℕ → State → ℕ → Stepped
-step l t s i = stepWith l (number_of l.work t) (program_of t) s i
+step l t s i = step_with l (number_of l.work t) (program_of t) s i
 
 -- "The ready set is 64 bits, bit i for activity i, set where 14 to 16 don't apply." "an empty ready set"
-unfoldable pub canStep : Program → State → ℕ → Bool
-canStep p s i = eqb (refusal p s i) 0
+unfoldable pub can_step : Program → State → ℕ → Bool
+can_step p s i = eqb (refusal p s i) 0
 
 unfoldable pub ready : Limits → List ℕ → State → Ready
 ready l t s =
     let n = unfit l (number_of l.work t) (program_of t) s in
-    let members = bitsBelow 64 (canStep (program_of t) s) in
+    let members = bits_below 64 (can_step (program_of t) s) in
     record { set = cond (eqb n 0) members 0; number = n }
 
 -- How many activities activity i waits for: the call tries 1 to 15, "an activity that doesn't wait" and a call that is turned down having 0.
-unfoldable pub awaitedNumber : Limits → List ℕ → State → ℕ → ℕ
-awaitedNumber l t s i =
+unfoldable pub awaited_number : Limits → List ℕ → State → ℕ → ℕ
+awaited_number l t s i =
     let n = unfit l (number_of l.work t) (program_of t) s in
     let r = refusal (program_of t) s i in
     cond (eqb n 0) (cond (eqb r 16) 0 r) n
 
-unfoldable pub awaitedCount : Limits → List ℕ → State → ℕ → ℕ
-awaitedCount l t s i =
+unfoldable pub awaited_count : Limits → List ℕ → State → ℕ → ℕ
+awaited_count l t s i =
     let n = unfit l (number_of l.work t) (program_of t) s in
     let count = awaited (program_of t) s i in
     cond (eqb n 0) count 0
 
 -- "sixty-four rows of sixteen entries, by activity and clock number: 0 not held, 1 live, 2 quiesced"
-unfoldable pub registrationOn : ℕ → List Hold → ℕ
-registrationOn c [] = 0
-registrationOn c (h ∷ hs) = let r = registrationOn c hs in cond (is_held h.registration && eqb h.clock c) (registrationNumber h.registration) r
+unfoldable pub registration_on : ℕ → List Hold → ℕ
+registration_on c [] = 0
+registration_on c (h ∷ hs) = let r = registration_on c hs in cond (is_held h.registration && eqb h.clock c) (registration_number h.registration) r
 
-unfoldable pub sheetOf : State → List (List ℕ)
-sheetOf s = list_from 64 0 (λ i. list_from 16 0 (λ c. registrationOn c (act s i).holds))
+unfoldable pub sheet_of : State → List (List ℕ)
+sheet_of s = list_from 64 0 (λ i. list_from 16 0 (λ c. registration_on c (act s i).holds))
 
-abbrev pub noSheet : List (List ℕ)
-noSheet = replicate 64 (replicate 16 0)
+abbrev pub no_sheet : List (List ℕ)
+no_sheet = replicate 64 (replicate 16 0)
 
-unfoldable pub registrationsNumber : Limits → List ℕ → State → ℕ
-registrationsNumber l t s = unfit l (number_of l.work t) (program_of t) s
+unfoldable pub registrations_number : Limits → List ℕ → State → ℕ
+registrations_number l t s = unfit l (number_of l.work t) (program_of t) s
 
 unfoldable pub registrations : Limits → List ℕ → State → List (List ℕ)
-registrations l t s = let sheet = sheetOf s in cond (eqb (registrationsNumber l t s) 0) sheet noSheet
+registrations l t s = let sheet = sheet_of s in cond (eqb (registrations_number l t s) 0) sheet no_sheet

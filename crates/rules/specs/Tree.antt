@@ -2,11 +2,11 @@
 use Rattle.std.specs.Prelude.{ℕ, ◌-◌, [], Bool, true, ◌&&◌, get_or, ltb, leb, eqb}
 use Rattle.program.specs.declared.command.Command.{Command}
 use Rattle.program.specs.Command.{opcode}
-use Rattle.program.specs.Bodies.{Located, Body, Program, from, head_of, tailOf}
+use Rattle.program.specs.Bodies.{Located, Body, Program, from, head_of, tail_of}
 use Rattle.rules.specs.declared.state.Frame.{Frame}
 use Rattle.rules.specs.declared.state.Activity.{Activity}
 use Rattle.rules.specs.declared.state.State.{State}
-use Rattle.rules.specs.Search.{someBelow, chain}
+use Rattle.rules.specs.Search.{some_below, chain}
 use Rattle.rules.specs.State.{act, frame}
 
 -- THE STACK
@@ -20,34 +20,34 @@ unfoldable pub here : Program → Frame → Located
 here p f = head_of (rest p f)
 
 -- The place of the command after it.
-unfoldable pub nextOffset : Program → Frame → ℕ
-nextOffset p f = (head_of (tailOf (rest p f))).offset
+unfoldable pub next_offset : Program → Frame → ℕ
+next_offset p f = (head_of (tail_of (rest p f))).offset
 
-abbrev pub isFinish : Command → Bool
-isFinish c = eqb (opcode c) 0x06
+abbrev pub is_finish : Command → Bool
+is_finish c = eqb (opcode c) 0x06
 
 -- Frame d of the stack runs the body above it by a FINISH.
 unfoldable pub finishes : Program → Activity → ℕ → Bool
-finishes p a d = isFinish (here p (frame a d)).command
+finishes p a d = is_finish (here p (frame a d)).command
 
 -- "while in an own FINISH body"
-unfoldable pub inOwnFinish : Program → Activity → Bool
-inOwnFinish p a = someBelow (a.depth - 1) (finishes p a)
+unfoldable pub in_own_finish : Program → Activity → Bool
+in_own_finish p a = some_below (a.depth - 1) (finishes p a)
 
 -- The body at the top is one that a FINISH runs.
-unfoldable pub inFinishBody : Program → Activity → Bool
-inFinishBody p a = ltb 1 a.depth && finishes p a (a.depth - 2)
+unfoldable pub in_finish_body : Program → Activity → Bool
+in_finish_body p a = ltb 1 a.depth && finishes p a (a.depth - 2)
 
 -- THE TREE
 
-abbrev pub spawnerOf : State → ℕ → ℕ
-spawnerOf s x = (act s x).spawner
+abbrev pub spawner_of : State → ℕ → ℕ
+spawner_of s x = (act s x).spawner
 
 -- "It is a descendant of the spawner and of the spawner's ancestors."
 unfoldable pub descends : State → ℕ → ℕ → Bool
-descends s w x = chain (spawnerOf s) (λ y. true) w 64 x
+descends s w x = chain (spawner_of s) (λ y. true) w 64 x
 
 -- "It is inside a finish if it was spawned by the owner during that body, or by an activity inside." Activities are numbered in the order of
 -- creation: of the owner's children, those spawned during the body are those from the number on that was next when it began.
 unfoldable pub inside : State → ℕ → ℕ → ℕ → Bool
-inside s w first x = chain (spawnerOf s) (leb first) w 64 x
+inside s w first x = chain (spawner_of s) (leb first) w 64 x

@@ -11,21 +11,21 @@ use Rattle.rules.specs.declared.state.Activity.{Activity}
 use Rattle.rules.specs.declared.state.Accumulator.{Accumulator}
 use Rattle.rules.specs.declared.state.State.{State}
 use Rattle.rules.specs.Search.{list_from}
-use Rattle.rules.specs.State.{noFrame, noHold, noActivity, noAccumulator, act}
-use Rattle.rules.specs.Effects.{withFrames, withHolds, stopped}
-use Rattle.rules.specs.Steps.{startState}
+use Rattle.rules.specs.State.{no_frame, no_hold, no_activity, no_accumulator, act}
+use Rattle.rules.specs.Effects.{with_frames, with_holds, stopped}
+use Rattle.rules.specs.Steps.{start_state}
 
 -- PARTS IN SHORT
 
-abbrev pub frameAt : ℕ → ℕ → ℕ → ℕ → Frame
-frameAt offset body runs first = record { offset = offset; body = body; runs = runs; first = first }
+abbrev pub frame_at : ℕ → ℕ → ℕ → ℕ → Frame
+frame_at offset body runs first = record { offset = offset; body = body; runs = runs; first = first }
 
 -- A body that no command of its activity runs.
 abbrev pub bottom : ℕ → ℕ → Frame
-bottom offset body = frameAt offset body 0 0
+bottom offset body = frame_at offset body 0 0
 
-abbrev pub holdOn : ℕ → ℕ → Registration → Hold
-holdOn phase clock registration = record { phase = phase; clock = clock; registration = registration }
+abbrev pub hold_on : ℕ → ℕ → Registration → Hold
+hold_on phase clock registration = record { phase = phase; clock = clock; registration = registration }
 
 abbrev pub holding : ℕ → Operator → ℕ → Accumulator
 holding value operator owner = record { value = value; owner = owner; operator = operator }
@@ -35,8 +35,8 @@ unfoldable pub activity : Status → ℕ → ℕ → List Frame → List Hold �
 activity status spawner register frames holds names =
     record {
       register = register;
-      frames = frames ++ replicate (16 - length frames) noFrame;
-      holds = holds ++ replicate (8 - length holds) noHold;
+      frames = frames ++ replicate (16 - length frames) no_frame;
+      holds = holds ++ replicate (8 - length holds) no_hold;
       accumulators = names ++ replicate (8 - length names) 0;
       status = status;
       spawner = spawner;
@@ -48,8 +48,8 @@ unfoldable pub written : ℕ → ℕ → List ℕ → List Activity → List Acc
 written steps clocks cells acts accs =
     record {
       cells = cells ++ replicate (16 - length cells) 0;
-      acts = acts ++ replicate (64 - length acts) noActivity;
-      accs = accs ++ replicate (16 - length accs) noAccumulator;
+      acts = acts ++ replicate (64 - length acts) no_activity;
+      accs = accs ++ replicate (16 - length accs) no_accumulator;
       steps = steps;
       activities = length acts;
       clocks = clocks;
@@ -58,21 +58,21 @@ written steps clocks cells acts accs =
 
 -- PARTS CHANGED
 
-abbrev pub withFrame : ℕ → Frame → Activity → Activity
-withFrame d f a = withFrames a a.depth (set a.frames d f)
+abbrev pub with_frame : ℕ → Frame → Activity → Activity
+with_frame d f a = with_frames a a.depth (set a.frames d f)
 
 -- A single body on the stack.
-abbrev pub onBody : Frame → Activity → Activity
-onBody f a = withFrames a 1 (f ∷ replicate 15 noFrame)
+abbrev pub on_body : Frame → Activity → Activity
+on_body f a = with_frames a 1 (f ∷ replicate 15 no_frame)
 
-abbrev pub withHold : ℕ → Hold → Activity → Activity
-withHold k h a = withHolds a a.status (set a.holds k h)
+abbrev pub with_hold : ℕ → Hold → Activity → Activity
+with_hold k h a = with_holds a a.status (set a.holds k h)
 
-abbrev pub withStatus : Status → Activity → Activity
-withStatus status a = withHolds a status a.holds
+abbrev pub with_status : Status → Activity → Activity
+with_status status a = with_holds a status a.holds
 
-abbrev pub withSpawner : ℕ → Activity → Activity
-withSpawner i a =
+abbrev pub with_spawner : ℕ → Activity → Activity
+with_spawner i a =
     record {
       register = a.register;
       frames = a.frames;
@@ -84,8 +84,8 @@ withSpawner i a =
     }
 
 -- A state with other activities, other accumulators, or other counts: steps, activities, clocks, accumulators.
-unfoldable pub withActs : List Activity → State → State
-withActs acts s =
+unfoldable pub with_acts : List Activity → State → State
+with_acts acts s =
     record {
       cells = s.cells;
       acts = acts;
@@ -96,8 +96,8 @@ withActs acts s =
       accumulators = s.accumulators;
     }
 
-unfoldable pub withAccs : List Accumulator → State → State
-withAccs accs s =
+unfoldable pub with_accs : List Accumulator → State → State
+with_accs accs s =
     record {
       cells = s.cells;
       acts = s.acts;
@@ -108,8 +108,8 @@ withAccs accs s =
       accumulators = s.accumulators;
     }
 
-unfoldable pub withCounts : ℕ → ℕ → ℕ → ℕ → State → State
-withCounts steps activities clocks accumulators s =
+unfoldable pub with_counts : ℕ → ℕ → ℕ → ℕ → State → State
+with_counts steps activities clocks accumulators s =
     record {
       cells = s.cells;
       acts = s.acts;
@@ -121,10 +121,10 @@ withCounts steps activities clocks accumulators s =
     }
 
 unfoldable pub change : ℕ → (Activity → Activity) → State → State
-change i f s = withActs (set s.acts i (f (act s i))) s
+change i f s = with_acts (set s.acts i (f (act s i))) s
 
-unfoldable pub changeAcc : ℕ → Accumulator → State → State
-changeAcc n c s = withAccs (set s.accs n c) s
+unfoldable pub change_acc : ℕ → Accumulator → State → State
+change_acc n c s = with_accs (set s.accs n c) s
 
 -- TABLES AND STATES TO CHANGE
 
@@ -133,7 +133,7 @@ unfoldable pub nest : List ℕ
 nest = 0x03 ∷ 0x06 ∷ 0x01 ∷ 0x00 ∷ 0x07 ∷ 0x02 ∷ 0x02 ∷ 0x00 ∷ 0x00 ∷ []
 
 unfoldable pub nested : State
-nested = withCounts 2 1 0 0 (change 0 (λ a. withFrames a 3 (frameAt 0 0 0 0 ∷ frameAt 0 1 0 1 ∷ frameAt 0 2 2 0 ∷ replicate 13 noFrame)) startState)
+nested = with_counts 2 1 0 0 (change 0 (λ a. with_frames a 3 (frame_at 0 0 0 0 ∷ frame_at 0 1 0 1 ∷ frame_at 0 2 2 0 ∷ replicate 13 no_frame)) start_state)
 
 -- The printed example; main waits for its child at a barrier of clock 0.
 unfoldable pub pair : List ℕ
@@ -141,15 +141,15 @@ pair = 0x02 ∷ 0x02 ∷ 0x00 ∷ 0x05 ∷ 0x01 ∷ 0x01 ∷ 0x01 ∷ 0x00 ∷ 0
 
 unfoldable pub paired : State
 paired =
-    withCounts 3 2 1 0 (change 1 (λ a. withHold 0 (holdOn 0 0 Live) (onBody (bottom 0 1) a))
-    (change 0 (λ a. withStatus AtBarrier (withHold 0 (holdOn 0 0 Quiesced) (onBody (bottom 5 0) a))) startState))
+    with_counts 3 2 1 0 (change 1 (λ a. with_hold 0 (hold_on 0 0 Live) (on_body (bottom 0 1) a))
+    (change 0 (λ a. with_status AtBarrier (with_hold 0 (hold_on 0 0 Quiesced) (on_body (bottom 5 0) a))) start_state))
 
 -- ASYNC of a body without clocks; main before it, with sixty-three others that have ended.
 unfoldable pub crowd : List ℕ
 crowd = 0x02 ∷ 0x05 ∷ 0x01 ∷ 0x00 ∷ 0x00 ∷ 0x00 ∷ []
 
 unfoldable pub crowded : State
-crowded = withCounts 0 64 0 0 (withActs (act startState 0 ∷ replicate 63 (stopped noActivity Ended)) startState)
+crowded = with_counts 0 64 0 0 (with_acts (act start_state 0 ∷ replicate 63 (stopped no_activity Ended)) start_state)
 
 -- Sixteen bodies, each but the last repeating the next once; main in the last.
 unfoldable pub deep : List ℕ
@@ -160,11 +160,11 @@ deep = 0x10 ∷ links 15 1
     links (suc n) b = 0x07 ∷ 0x01 ∷ b ∷ 0x00 ∷ links n (suc b)
 
 unfoldable pub deepest : ℕ → State
-deepest depth = change 0 (λ a. withFrames a depth (frameAt 0 0 0 0 ∷ list_from 15 1 (λ b. frameAt 0 b 1 0))) startState
+deepest depth = change 0 (λ a. with_frames a depth (frame_at 0 0 0 0 ∷ list_from 15 1 (λ b. frame_at 0 b 1 0))) start_state
 
 -- An ATOM of one FETCH.
 unfoldable pub atom : List ℕ
 atom = 0x01 ∷ 0x10 ∷ 0x01 ∷ 0x0D ∷ 0x00 ∷ 0x00 ∷ []
 
 unfoldable pub standing : ℕ → State
-standing offset = change 0 (onBody (bottom offset 0)) startState
+standing offset = change 0 (on_body (bottom offset 0)) start_state

@@ -25,8 +25,8 @@ module _ {before buffer l : List ℕ} {k : ℕ} (f : Filled before buffer l k) w
   past = sym (drop-drop 1 k buffer) ∙ ap (λ (x : List ℕ). drop 1 x) f.kept ∙ drop-drop 1 k before
 
   -- One more is stored.
-  pub filled-store : (v : ℕ) → k < length buffer → Filled before (set buffer k v) (l ++ (v ∷ [])) (k + 1)
-  filled-store v h =
+  pub filled_store : (v : ℕ) → k < length buffer → Filled before (set buffer k v) (l ++ (v ∷ [])) (k + 1)
+  filled_store v h =
       let m = f.sized in
       let n = f.count in
       let grown : take (k + 1) (set buffer k v) ≡ take k buffer ++ (v ∷ []) = rw (add-one k) (take-suc-set buffer k v h) in
@@ -39,8 +39,8 @@ module _ {before buffer l : List ℕ} {k : ℕ} (f : Filled before buffer l k) w
       }
 
   -- Or the buffer has ended.
-  pub filled-past : (v : ℕ) → length buffer ≤ k → Filled before buffer (l ++ (v ∷ [])) (k + 1)
-  filled-past v h =
+  pub filled_past : (v : ℕ) → length buffer ≤ k → Filled before buffer (l ++ (v ∷ [])) (k + 1)
+  filled_past v h =
       let m = f.sized in
       let n = f.count in
       record {
@@ -51,9 +51,9 @@ module _ {before buffer l : List ℕ} {k : ℕ} (f : Filled before buffer l k) w
       }
 
   -- The end.
-  pub filled-all : buffer ≡ take (length before) l ++ drop k before
-  filled-all = sym (take-append-drop k buffer) ∙ rw (f.filled, f.kept)
+  pub filled_all : buffer ≡ take (length before) l ++ drop k before
+  filled_all = sym (take-append-drop k buffer) ∙ rw (f.filled, f.kept)
 
   -- With room for all of them.
-  pub filled-room : k ≤ length before → buffer ≡ l ++ drop k before
-  filled-room h = let n = f.count in filled-all ∙ rw (take_all (length before) l (omega arith))
+  pub filled_room : k ≤ length before → buffer ≡ l ++ drop k before
+  filled_room h = let n = f.count in filled_all ∙ rw (take_all (length before) l (omega arith))

@@ -11,7 +11,7 @@ use Rattle.rules.specs.Runs.{run_from}
 use Rattle.fields.specs.Lent.{Lent}
 use Rattle.turns.specs.declared.Reply.{Reply}
 use Rattle.turns.specs.Turns.{TurnsAny, Followable, Follows}
-use Rattle.turns.proofs.Runs.{Under, under-start, under-stored, under-past, under-end}
+use Rattle.turns.proofs.Runs.{Under, under_start, under_stored, under_past, under_end}
 
 -- After k turns: the bytes are those of the state that they led to, and what they told stands in the buffers.
 pub record Going (t starts : List ℕ) (work : ℕ) (order before lent b buffer told c : List ℕ) (k : ℕ) : Type 0 where
@@ -25,7 +25,7 @@ pub record Going (t starts : List ℕ) (work : ℕ) (order before lent b buffer 
 module _ {t starts : List ℕ} {work : ℕ} {order before lent b : List ℕ} where
   pub going_start : Going t starts work order before lent b before lent b 0
   unfolding run_from
-  going_start = record { within = omega arith; sized = refl; counts = refl; same = refl; here = λ s l f. (l, under-start t order before lent s) }
+  going_start = record { within = omega arith; sized = refl; counts = refl; same = refl; here = λ s l f. (l, under_start t order before lent s) }
 
   module _ {buffer told c : List ℕ} {k : ℕ} (g : Going t starts work order before lent b buffer told c k) where
     module _ {e : List ℕ} {i : ℕ} {r : Reply} (more : k < length order) (read : i ≡ get_or order k 0) (m : TurnsAny t starts c e work i r) (long : length e ≡ length c) where
@@ -52,23 +52,23 @@ module _ {t starts : List ℕ} {work : ℕ} {order before lent b : List ℕ} whe
                 );
           }
 
-      pub going-stored : k < length told → Going t starts work order before lent b (set buffer k r.number) (set told k r.awaited) e (k + 1)
-      going-stored h =
+      pub going_stored : k < length told → Going t starts work order before lent b (set buffer k r.number) (set told k r.awaited) e (k + 1)
+      going_stored h =
           going_on (length-set told k r.awaited ∙ g.counts)
           (λ s l f.
           let was = g.here s l f in
           let x = run_from base t s (take k order) in
           let w = f.formed k more in
-          under-stored f was.1 more read refl (m.turns f.known f.counted f.small x was.0 w).number (m.waits f.known x was.0 w) h)
+          under_stored f was.1 more read refl (m.turns f.known f.counted f.small x was.0 w).number (m.waits f.known x was.0 w) h)
 
-      pub going-past : length told ≤ k → Going t starts work order before lent b (set buffer k r.number) told e (k + 1)
-      going-past h =
+      pub going_past : length told ≤ k → Going t starts work order before lent b (set buffer k r.number) told e (k + 1)
+      going_past h =
           going_on g.counts
           (λ s l f.
           let was = g.here s l f in
           let x = run_from base t s (take k order) in
           let w = f.formed k more in
-          under-past f was.1 more read refl (m.turns f.known f.counted f.small x was.0 w).number (m.waits f.known x was.0 w) h)
+          under_past f was.1 more read refl (m.turns f.known f.counted f.small x was.0 w).number (m.waits f.known x was.0 w) h)
 
     pub going_end : length order ≤ k → Follows t starts work order before buffer lent told b c
     going_end h =
@@ -76,6 +76,6 @@ module _ {t starts : List ℕ} {work : ℕ} {order before lent b : List ℕ} whe
           follows =
               λ s l f.
               let was = g.here s l f in
-              let q = under-end was.1 h f.fits in
+              let q = under_end was.1 h f.fits in
               (subst (Lent c) q.0 was.0, q.1, q.2);
         }

@@ -9,13 +9,13 @@ use lib.Seq.{take-suc, take_all}
 use Rattle.program.specs.Bodies.{program_of}
 use Rattle.rules.specs.declared.state.State.{State}
 use Rattle.rules.specs.declared.answer.Stepped.{Stepped}
-use Rattle.rules.specs.State.{answerNumber}
-use Rattle.rules.specs.Steps.{base, stepWith, step, advance, awaited, awaitedCount}
-use Rattle.rules.specs.Runs.{run_from, answersFrom, awaitedFrom}
+use Rattle.rules.specs.State.{answer_number}
+use Rattle.rules.specs.Steps.{base, step_with, step, advance, awaited, awaited_count}
+use Rattle.rules.specs.Runs.{run_from, answers_from, awaited_from}
 use Rattle.rules.proofs.StepLaws.{fit}
 use Rattle.places.specs.Known.{Fit}
-use Rattle.turns.specs.Turns.{Followable, answeredFrom, awaitedInto}
-use Rattle.turns.proofs.Filled.{Filled, filled_none, filled-store, filled-past, filled-all, filled-room}
+use Rattle.turns.specs.Turns.{Followable, answered_from, awaited_into}
+use Rattle.turns.proofs.Filled.{Filled, filled_none, filled_store, filled_past, filled_all, filled_room}
 
 -- ONE CALL MORE
 
@@ -24,17 +24,17 @@ unfolding run_from
 run_more t [] s i = refl
 run_more t (j ∷ order) s i = run_more t order (step base t s j).state i
 
-answers-more : (t : List ℕ) (order : List ℕ) (s : State) (i : ℕ)
-    → map answerNumber (answersFrom base t s (order ++ (i ∷ []))) ≡ map answerNumber (answersFrom base t s order) ++ (answerNumber (step base t (run_from base t s order) i).answer ∷ [])
-unfolding run_from answersFrom
-answers-more t [] s i = refl
-answers-more t (j ∷ order) s i = ap (λ (x : List ℕ). answerNumber (step base t s j).answer ∷ x) (answers-more t order (step base t s j).state i)
+answers_more : (t : List ℕ) (order : List ℕ) (s : State) (i : ℕ)
+    → map answer_number (answers_from base t s (order ++ (i ∷ []))) ≡ map answer_number (answers_from base t s order) ++ (answer_number (step base t (run_from base t s order) i).answer ∷ [])
+unfolding run_from answers_from
+answers_more t [] s i = refl
+answers_more t (j ∷ order) s i = ap (λ (x : List ℕ). answer_number (step base t s j).answer ∷ x) (answers_more t order (step base t s j).state i)
 
-awaited-more : (t : List ℕ) (order : List ℕ) (s : State) (i : ℕ)
-    → awaitedFrom base t s (order ++ (i ∷ [])) ≡ awaitedFrom base t s order ++ (awaitedCount base t (run_from base t s order) i ∷ [])
-unfolding run_from awaitedFrom
-awaited-more t [] s i = refl
-awaited-more t (j ∷ order) s i = ap (λ (x : List ℕ). awaitedCount base t s j ∷ x) (awaited-more t order (step base t s j).state i)
+awaited_more : (t : List ℕ) (order : List ℕ) (s : State) (i : ℕ)
+    → awaited_from base t s (order ++ (i ∷ [])) ≡ awaited_from base t s order ++ (awaited_count base t (run_from base t s order) i ∷ [])
+unfolding run_from awaited_from
+awaited_more t [] s i = refl
+awaited_more t (j ∷ order) s i = ap (λ (x : List ℕ). awaited_count base t s j ∷ x) (awaited_more t order (step base t s j).state i)
 
 -- A RUN UNDER WAY
 
@@ -42,12 +42,12 @@ awaited-more t (j ∷ order) s i = ap (λ (x : List ℕ). awaitedCount base t s 
 pub record Under (t order before lent : List ℕ) (first s : State) (buffer told : List ℕ) (k : ℕ) : Type 0 where
   pub within : k ≤ length order
   pub here : s ≡ run_from base t first (take k order)
-  pub answers : Filled before buffer (map answerNumber (answersFrom base t first (take k order))) k
-  pub counts : Filled lent told (awaitedFrom base t first (take k order)) k
+  pub answers : Filled before buffer (map answer_number (answers_from base t first (take k order))) k
+  pub counts : Filled lent told (awaited_from base t first (take k order)) k
 
-pub under-start : (t order before lent : List ℕ) (s : State) → Under t order before lent s s before lent 0
-unfolding run_from answersFrom awaitedFrom
-under-start t order before lent s = record { within = omega arith; here = refl; answers = filled_none before; counts = filled_none lent }
+pub under_start : (t order before lent : List ℕ) (s : State) → Under t order before lent s s before lent 0
+unfolding run_from answers_from awaited_from
+under_start t order before lent s = record { within = omega arith; here = refl; answers = filled_none before; counts = filled_none lent }
 
 module _ {t order before lent : List ℕ} {first s : State} {buffer told : List ℕ} {k : ℕ} (u : Under t order before lent first s buffer told k) where
   -- One step more, whatever becomes of the second buffer.
@@ -55,53 +55,53 @@ module _ {t order before lent : List ℕ} {first s : State} {buffer told : List 
     next : take (k + 1) order ≡ take k order ++ (get_or order k 0 ∷ [])
     next = rw (add-one k) (take-suc order k 0 more)
 
-    under-step : {r : Stepped} {i v n : ℕ} {now : List ℕ} → r ≡ step base t s i → i ≡ get_or order k 0 → v ≡ answerNumber r.answer → n ≡ awaitedCount base t s i
-        → Filled lent now (awaitedFrom base t first (take k order) ++ (n ∷ [])) (k + 1) → Under t order before lent first r.state (set buffer k v) now (k + 1)
-    under-step {r} {i} {v} {n} e read answer count told' =
+    under_step : {r : Stepped} {i v n : ℕ} {now : List ℕ} → r ≡ step base t s i → i ≡ get_or order k 0 → v ≡ answer_number r.answer → n ≡ awaited_count base t s i
+        → Filled lent now (awaited_from base t first (take k order) ++ (n ∷ [])) (k + 1) → Under t order before lent first r.state (set buffer k v) now (k + 1)
+    under_step {r} {i} {v} {n} e read answer count told' =
         let m = u.answers.sized in
         let q : r ≡ step base t (run_from base t first (take k order)) (get_or order k 0) = e ∙ rw (u.here, read) in
-        let value : v ≡ answerNumber (step base t (run_from base t first (take k order)) (get_or order k 0)).answer = answer ∙ ap (λ (x : Stepped). answerNumber x.answer) q in
-        let number : n ≡ awaitedCount base t (run_from base t first (take k order)) (get_or order k 0) = count ∙ rw (u.here, read) in
+        let value : v ≡ answer_number (step base t (run_from base t first (take k order)) (get_or order k 0)).answer = answer ∙ ap (λ (x : Stepped). answer_number x.answer) q in
+        let number : n ≡ awaited_count base t (run_from base t first (take k order)) (get_or order k 0) = count ∙ rw (u.here, read) in
         record {
           within = omega arith;
           here = ap (λ (x : Stepped). x.state) q ∙ sym (run_more t (take k order) first (get_or order k 0)) ∙ ap (run_from base t first) (sym next);
-          answers = rw (next, answers-more t (take k order) first (get_or order k 0), ← value) (filled-store u.answers v (omega arith));
-          counts = rw (next, awaited-more t (take k order) first (get_or order k 0), ← number) told';
+          answers = rw (next, answers_more t (take k order) first (get_or order k 0), ← value) (filled_store u.answers v (omega arith));
+          counts = rw (next, awaited_more t (take k order) first (get_or order k 0), ← number) told';
         }
 
   -- The end.
-  pub under-end : length order ≤ k → length order ≤ length before
-      → (s ≡ run_from base t first order) × (buffer ≡ answeredFrom t first order before) × (told ≡ awaitedInto t first order lent)
-  unfolding answeredFrom awaitedInto
-  under-end h room =
+  pub under_end : length order ≤ k → length order ≤ length before
+      → (s ≡ run_from base t first order) × (buffer ≡ answered_from t first order before) × (told ≡ awaited_into t first order lent)
+  unfolding answered_from awaited_into
+  under_end h room =
       let last : k ≡ length order = omega (arith, u.within) in
       let all : take k order ≡ order = take_all k order h in (
         u.here ∙ ap (run_from base t first) all,
-        filled-room u.answers (omega arith) ∙ rw (all, last),
-        filled-all u.counts ∙ rw (all, last),
+        filled_room u.answers (omega arith) ∙ rw (all, last),
+        filled_all u.counts ∙ rw (all, last),
       )
 
 -- An order that can be followed.
 module _ {t : List ℕ} {starts : List ℕ} {work : ℕ} {order before lent : List ℕ} {first : State} (f : Followable t starts work first order (length before)) {s : State}
     {buffer told : List ℕ} {k : ℕ} (u : Under t order before lent first s buffer told k) (more : k < length order) where
   -- The state on the way is well-formed, so its step needs no check.
-  pub fit-here : Fit t starts s
-  fit-here = record { known = f.known; formed = rw u.here (f.formed k more) }
+  pub fit_here : Fit t starts s
+  fit_here = record { known = f.known; formed = rw u.here (f.formed k more) }
 
-  module _ {r : State} {i v n : ℕ} (read : i ≡ get_or order k 0) (e : r ≡ (advance base (program_of t) s i).state) (answer : v ≡ answerNumber (advance base (program_of t) s i).answer)
+  module _ {r : State} {i v n : ℕ} (read : i ≡ get_or order k 0) (e : r ≡ (advance base (program_of t) s i).state) (answer : v ≡ answer_number (advance base (program_of t) s i).answer)
       (count : n ≡ awaited (program_of t) s i) where
-    advanced : {now : List ℕ} → Filled lent now (awaitedFrom base t first (take k order) ++ (n ∷ [])) (k + 1) → Under t order before lent first r (set buffer k v) now (k + 1)
-    unfolding step stepWith awaitedCount
+    advanced : {now : List ℕ} → Filled lent now (awaited_from base t first (take k order) ++ (n ∷ [])) (k + 1) → Under t order before lent first r (set buffer k v) now (k + 1)
+    unfolding step step_with awaited_count
     advanced told' =
-        let z = fit base t s f.accepted fit-here.formed in
+        let z = fit base t s f.accepted fit_here.formed in
         let q : advance base (program_of t) s i ≡ step base t s i = rw z in
-        let c : n ≡ awaitedCount base t s i = count ∙ rw z in
-        rw e (under-step u more f.fits q read answer c told')
+        let c : n ≡ awaited_count base t s i = count ∙ rw z in
+        rw e (under_step u more f.fits q read answer c told')
 
     -- There is room for the number.
-    pub under-stored : k < length told → Under t order before lent first r (set buffer k v) (set told k n) (k + 1)
-    under-stored h = advanced (filled-store u.counts n h)
+    pub under_stored : k < length told → Under t order before lent first r (set buffer k v) (set told k n) (k + 1)
+    under_stored h = advanced (filled_store u.counts n h)
 
     -- There is none.
-    pub under-past : length told ≤ k → Under t order before lent first r (set buffer k v) told (k + 1)
-    under-past h = advanced (filled-past u.counts n h)
+    pub under_past : length told ≤ k → Under t order before lent first r (set buffer k v) told (k + 1)
+    under_past h = advanced (filled_past u.counts n h)

@@ -6,7 +6,7 @@ use borrow.Author.Tests.{ne_eqb}
 use Rattle.program.specs.Bodies.{program_of}
 use Rattle.rules.specs.declared.answer.Answer.TheVariants.{Refused}
 use Rattle.rules.specs.declared.answer.Stepped.{Stepped}
-use Rattle.rules.specs.State.{answerNumber}
+use Rattle.rules.specs.State.{answer_number}
 use Rattle.rules.specs.Steps.{base, stepped, advance}
 use Rattle.fields.specs.Lent.{Lent}
 use Rattle.turns.specs.declared.Reply.{Reply}
@@ -20,6 +20,6 @@ refused {t} {b = b} {i = i} {r = r} k h =
           λ known counted small s l w.
           let e = (k.sees known s l w).number in
           let q : advance base (program_of t) s i ≡ stepped (Refused r.number) s = rw (← e, ne_eqb r.number 0 h) in
-          record { state = subst (λ (x : Stepped). Lent b x.state) (sym q) l; number = ap (λ (x : Stepped). answerNumber x.answer) (sym q) };
+          record { state = subst (λ (x : Stepped). Lent b x.state) (sym q) l; number = ap (λ (x : Stepped). answer_number x.answer) (sym q) };
       waits = λ known s l w. (k.sees known s l w).count;
     }

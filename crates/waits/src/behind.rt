@@ -1,6 +1,6 @@
 // Passing waits for the activities that are behind on an own clock.
 ghost use Rattle.std.specs.Prelude.{◌≡◌, length};
-ghost use Rattle.waits.specs.Waits.{isUnended, OwnPlaces, Late, Behind};
+ghost use Rattle.waits.specs.Waits.{is_unended, OwnPlaces, Late, Behind};
 ghost use Rattle.fields.specs.Lent.{ReadsAct};
 
 use super::inside::standing_at;
@@ -50,7 +50,7 @@ fn is_late(hold: &[u8], own: &[usize]) -> bool
 
 // Whether an activity has neither ended nor faulted.
 fn is_unended(state: &[u8], x: usize) -> bool
-    ensures { ReadsAct isUnended state.now x result }
+    ensures { ReadsAct is_unended state.now x result }
 {
     standing_at(state, x) < 2
 }

@@ -1,6 +1,6 @@
 // Those inside a finish: END of its body waits for who has not ended, and passes a fault on. READ and RESET wait for the descendants, with `first` 0.
 ghost use Rattle.std.specs.Prelude.{◌<◌, ◌≡◌, false, ◌||◌, eqb};
-ghost use Rattle.encoding.specs.Encode.{statusByte};
+ghost use Rattle.encoding.specs.Encode.{status_byte};
 ghost use Rattle.fields.specs.Lent.{ReadsAct};
 ghost use Rattle.rules.specs.declared.state.Activity.{Activity};
 ghost use Rattle.waits.specs.Waits.{Lowest, Sees};
@@ -49,7 +49,7 @@ fn joins(spawner: usize, w: usize, above: bool) -> bool
 
 // The byte of an activity's standing: 0 running, 1 at a meeting, 2 ended, 3 faulted.
 pub(crate) fn standing_at(state: &[u8], x: usize) -> u8
-    ensures { ReadsAct (λ (a : Activity). statusByte a.status) state.now x result }
+    ensures { ReadsAct (λ (a : Activity). status_byte a.status) state.now x result }
 {
     if 64 <= x {
         return 0;

@@ -8,14 +8,14 @@ use borrow.Author.Tests.{leb-true, leb-false}
 use lib.Dec.{leb}
 use lib.ListN.{length, take}
 use lib.Seq.{take_all, length-take-le}
-use Rattle.program.specs.Table.{workLimit, number_of}
+use Rattle.program.specs.Table.{work_limit, number_of}
 use Rattle.program.proofs.TableLaws.{too_long}
 use Rattle.walk.specs.Walked.{walked}
 
 -- Two tables of number 1 print the same.
-same-refusal : (t u order : List ℕ) → number_of workLimit t ≡ 1 → number_of workLimit u ≡ 1 → walked t order ≡ walked u order
+same_refusal : (t u order : List ℕ) → number_of work_limit t ≡ 1 → number_of work_limit u ≡ 1 → walked t order ≡ walked u order
 unfolding walked
-same-refusal t u order a b = rw (a, b)
+same_refusal t u order a b = rw (a, b)
 
 pub enough : (t order : List ℕ) → walked (take 2049 t) order ≡ walked t order
 enough t order = go (leb (length t) 2049) refl
@@ -25,4 +25,4 @@ enough t order = go (leb (length t) 2049) refl
     go false e =
         let long : 2049 < length t = leb-false (length t) 2049 e in
         let kept : length (take 2049 t) ≡ 2049 = length-take-le 2049 t (omega arith) in
-        same-refusal (take 2049 t) t order (too_long workLimit (take 2049 t) (omega arith)) (too_long workLimit t (omega arith))
+        same_refusal (take 2049 t) t order (too_long work_limit (take 2049 t) (omega arith)) (too_long work_limit t (omega arith))

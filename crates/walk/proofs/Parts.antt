@@ -23,5 +23,5 @@ pub kept : {l l' xs : List ℕ} {at n : ℕ} → Put l at xs l' n → length l' 
 kept {l} {l'} {xs} {at} p = ap length p.bytes ∙ length-sets l at xs
 
 -- A total with an equal third number.
-pub counted-total : (work taken spawned : ℕ) {l l' : List ℕ} {n m end : ℕ} → n ≡ m → Put l 0 (total_of work taken n spawned) l' end → Put l 0 (total_of work taken m spawned) l' end
-counted-total work taken spawned {l} {l'} {n} {m} {end} e p = subst (λ (k : ℕ). Put l 0 (total_of work taken k spawned) l' end) e p
+pub counted_total : (work taken spawned : ℕ) {l l' : List ℕ} {n m end : ℕ} → n ≡ m → Put l 0 (total_of work taken n spawned) l' end → Put l 0 (total_of work taken m spawned) l' end
+counted_total work taken spawned {l} {l'} {n} {m} {end} e p = subst (λ (k : ℕ). Put l 0 (total_of work taken k spawned) l' end) e p

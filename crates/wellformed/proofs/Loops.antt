@@ -6,8 +6,8 @@ use mathlib.Core.Path.{◌≡◌, refl, sym, ◌∙◌}
 use mathlib.Core.Bool.{Bool, true, false, ◌&&◌, not}
 use borrow.Author.Tests.{not-true, not-false}
 use Rattle.rules.specs.Search.{all_below}
-use Rattle.rules.proofs.Tests.{true-false, decide, and_intro}
-use Rattle.rules.proofs.Search.{allBelow-at}
+use Rattle.rules.proofs.Tests.{true_false, decide, and_intro}
+use Rattle.rules.proofs.Search.{all_below_at}
 use mathlib.Core.Logic.{◌⊎◌, inl, inr}
 
 -- Every entry that the loop has passed passes the test f.
@@ -23,14 +23,14 @@ pub one_more : {n : ℕ} {f : ℕ → Bool} {i : ℕ} → Passed n f i → i < n
 unfolding all_below
 one_more {f = f} {i = i} h l e = record { within = omega arith; all = rw add-one (and_intro (f i) _ e h.all) }
 
-pub at-end : {n : ℕ} {f : ℕ → Bool} {i : ℕ} → Passed n f i → n ≤ i → true ≡ all_below n f
-at-end {n = n} {i = i} h l = let e : i ≡ n = omega (arith, h.within) in sym (rw e at h.all)
+pub at_end : {n : ℕ} {f : ℕ → Bool} {i : ℕ} → Passed n f i → n ≤ i → true ≡ all_below n f
+at_end {n = n} {i = i} h l = let e : i ≡ n = omega (arith, h.within) in sym (rw e at h.all)
 
-pub one-fails : (n : ℕ) (f : ℕ → Bool) (i : ℕ) → i < n → f i ≡ false → false ≡ all_below n f
-one-fails n f i l e = go (decide (all_below n f))
+pub one_fails : (n : ℕ) (f : ℕ → Bool) (i : ℕ) → i < n → f i ≡ false → false ≡ all_below n f
+one_fails n f i l e = go (decide (all_below n f))
   where
     go : (all_below n f ≡ true) ⊎ (all_below n f ≡ false) → false ≡ all_below n f
-    go (inl p) = absurd (true-false (f i) (allBelow-at n f p i l) e)
+    go (inl p) = absurd (true_false (f i) (all_below_at n f p i l) e)
     go (inr p) = sym p
 
 -- Every entry passes where each does.
@@ -48,18 +48,18 @@ so e h = sym e ∙ h
 pub not_so : {r q : Bool} → r ≡ q → r ≡ false → q ≡ false
 not_so e h = sym e ∙ h
 
-pub fails-so : {r q : Bool} → r ≡ q → not r ≡ true → q ≡ false
-fails-so {r = r} e h = sym e ∙ not-true r h
+pub fails_so : {r q : Bool} → r ≡ q → not r ≡ true → q ≡ false
+fails_so {r = r} e h = sym e ∙ not-true r h
 
-pub holds-so : {r q : Bool} → r ≡ q → not r ≡ false → q ≡ true
-holds-so {r = r} e h = sym e ∙ not-false r h
+pub holds_so : {r q : Bool} → r ≡ q → not r ≡ false → q ≡ true
+holds_so {r = r} e h = sym e ∙ not-false r h
 
 -- PARTS IN USE, AND ZEROS BEHIND THEM
 
 -- A part in use fails.
-pub part-fails : {w : Bool} (m : ℕ) (f : ℕ → Bool) (z : Bool) (i : ℕ) → all_below m f && z ≡ w → i < m → f i ≡ false → false ≡ w
-part-fails m f z i e l h = rw (sym (one-fails m f i l h)) at e
+pub part_fails : {w : Bool} (m : ℕ) (f : ℕ → Bool) (z : Bool) (i : ℕ) → all_below m f && z ≡ w → i < m → f i ≡ false → false ≡ w
+part_fails m f z i e l h = rw (sym (one_fails m f i l h)) at e
 
 -- All parts in use pass.
-pub parts-end : {r w : Bool} {m : ℕ} {f : ℕ → Bool} (z : Bool) {i : ℕ} → all_below m f && z ≡ w → Passed m f i → m ≤ i → r ≡ z → r ≡ w
-parts-end z e h l q = q ∙ rw (sym (at-end h l)) at e
+pub parts_end : {r w : Bool} {m : ℕ} {f : ℕ → Bool} (z : Bool) {i : ℕ} → all_below m f && z ≡ w → Passed m f i → m ≤ i → r ≡ z → r ≡ w
+parts_end z e h l q = q ∙ rw (sym (at_end h l)) at e

@@ -7,13 +7,13 @@ use mathlib.Core.Bool.{Bool, true, false}
 use lib.ListN.{length, get_or}
 use lib.Dec.{eqb}
 use borrow.Author.Tests.{lt-ltb, le-ltb}
-use Rattle.program.specs.Bodies.{program_of, isPlace}
+use Rattle.program.specs.Bodies.{program_of, is_place}
 use Rattle.program.specs.Scan.{layout_of}
 use Rattle.program.specs.Places.{places_of}
 use Rattle.program.proofs.ShapeListed.{passes}
-use Rattle.program.proofs.ShapeLaws.{length-program}
-use Rattle.program.proofs.Located.{place-from}
-use Rattle.program.proofs.LocatedBytes.{length-starts, place_inside, start-inside}
+use Rattle.program.proofs.ShapeLaws.{length_program}
+use Rattle.program.proofs.Located.{place_from}
+use Rattle.program.proofs.LocatedBytes.{length_starts, place_inside, start_inside}
 use Rattle.program.proofs.Marks.{marked}
 use Rattle.rules.specs.declared.state.Frame.{Frame}
 use Rattle.rules.specs.WellFormed.{is_placed}
@@ -21,49 +21,49 @@ use Rattle.places.specs.Known.{Known}
 
 module _ {t starts : List ℕ} (h : Known t starts) where
   -- A table has a first byte, the number of its bodies, and is short.
-  pub table-some : 0 < length t
-  table-some = let k = (passes t h.scanned).long in omega arith
+  pub table_some : 0 < length t
+  table_some = let k = (passes t h.scanned).long in omega arith
 
-  pub table-short : length t ≤ 2048
-  table-short = (passes t h.scanned).short
+  pub table_short : length t ≤ 2048
+  table_short = (passes t h.scanned).short
 
-  starts-are : (b : ℕ) → get_or starts b 0 ≡ get_or (layout_of t).starts b 0
-  starts-are b = ap (λ (l : List ℕ). get_or l b 0) h.laid
+  starts_are : (b : ℕ) → get_or starts b 0 ≡ get_or (layout_of t).starts b 0
+  starts_are b = ap (λ (l : List ℕ). get_or l b 0) h.laid
 
   -- A frame's body and offset, as the code has them, and the number of bodies.
   module _ (f : Frame) {n b o : ℕ} (is-count : n ≡ get_or t 0 0) (is_IsBody : b ≡ f.body) (is-offset : o ≡ f.offset) where
     -- A body that the table lacks has no place.
     pub no_body : n ≤ b → false ≡ is_placed (program_of t) f
     unfolding is_placed
-    no_body l = let e = length-program t in rw (le-ltb f.body (length (program_of t)) (omega arith))
+    no_body l = let e = length_program t in rw (le-ltb f.body (length (program_of t)) (omega arith))
 
     module _ (l : b < n) where
       counted : b < get_or t 0 0
       counted = rw is-count at l
 
       -- A body of the table has a start, inside the table.
-      pub start-there : b < length starts
-      start-there = let k = (passes t h.scanned).few in let s = ap length h.laid ∙ length-starts t h.scanned in omega arith
+      pub start_there : b < length starts
+      start_there = let k = (passes t h.scanned).few in let s = ap length h.laid ∙ length_starts t h.scanned in omega arith
 
       pub start_small : get_or starts b 0 < 2048
-      start_small = let k = start-inside t h.scanned b counted in let s = starts-are b in let m = table-short in omega arith
+      start_small = let k = start_inside t h.scanned b counted in let s = starts_are b in let m = table_short in omega arith
 
       -- A frame of it is at a place where its offset is one.
-      by-offset : isPlace (get_or (program_of t) b []) o ≡ is_placed (program_of t) f
+      by_offset : is_place (get_or (program_of t) b []) o ≡ is_placed (program_of t) f
       unfolding is_placed
-      by-offset = let e = length-program t in rw (is_IsBody, is-offset, lt-ltb f.body (length (program_of t)) (omega arith))
+      by_offset = let e = length_program t in rw (is_IsBody, is-offset, lt-ltb f.body (length (program_of t)) (omega arith))
 
       -- No place lies past the table's end.
       pub past_end : length t ≤ get_or starts b 0 + o → false ≡ is_placed (program_of t) f
-      past_end q = by (isPlace (get_or (program_of t) b []) o) refl
+      past_end q = by (is_place (get_or (program_of t) b []) o) refl
         where
-          by : (p : Bool) → isPlace (get_or (program_of t) b []) o ≡ p → false ≡ is_placed (program_of t) f
+          by : (p : Bool) → is_place (get_or (program_of t) b []) o ≡ p → false ≡ is_placed (program_of t) f
           by true e =
-              let k = place_inside t h.scanned b counted o (place-from (get_or (program_of t) b []) o e) in
-              let s = starts-are b in
+              let k = place_inside t h.scanned b counted o (place_from (get_or (program_of t) b []) o e) in
+              let s = starts_are b in
               absurd (let y : ⊥ = omega arith in y)
-          by false e = sym (sym by-offset ∙ e)
+          by false e = sym (sym by_offset ∙ e)
 
       -- The marks say where the places are.
-      pub by-mark : {marks : List ℕ} → marks ≡ places_of t → eqb (get_or marks (get_or starts b 0 + o) 0) (b + 1) ≡ is_placed (program_of t) f
-      by-mark e = rw (e, starts-are b) (marked t h.scanned b counted o ∙ by-offset)
+      pub by_mark : {marks : List ℕ} → marks ≡ places_of t → eqb (get_or marks (get_or starts b 0 + o) 0) (b + 1) ≡ is_placed (program_of t) f
+      by_mark e = rw (e, starts_are b) (marked t h.scanned b counted o ∙ by_offset)

@@ -7,16 +7,16 @@ use lib.ListN.{length}
 use lib.Dec.{leb, eqb}
 use borrow.Author.Tests.{eq-eqb, ne_eqb}
 use Rattle.program.specs.Bodies.{Program, program_of}
-use Rattle.program.specs.Table.{workLimit, table_of}
+use Rattle.program.specs.Table.{work_limit, table_of}
 use Rattle.program.specs.Table as table
 use Rattle.program.specs.declared.table.Table.{Table}
-use Rattle.rules.specs.WellFormed.{countsFit, activityFits, activitiesFit, accumulatorsFit, wellFormed}
+use Rattle.rules.specs.WellFormed.{counts_fit, activity_fits, activities_fit, accumulators_fit, well_formed}
 use Rattle.rules.specs.Steps.{unfit}
-use Rattle.encoding.specs.Bytes.{number_of, part, byte_at, allZero, partsPass}
-use Rattle.encoding.specs.Decode.{state_of, accumulatorEncodes, activityEncodes, fieldsEncode, encodes}
+use Rattle.encoding.specs.Bytes.{number_of, part, byte_at, all_zero, parts_pass}
+use Rattle.encoding.specs.Decode.{state_of, accumulator_encodes, activity_encodes, fields_encode, encodes}
 use Rattle.wellformed.specs.declared.made.Made.{Made}
-use Rattle.wellformed.specs.Entries.{activityIsFit, accumulatorEntry, accumulatorEntries}
-use Rattle.wellformed.specs.Passing.{passes, headPasses, accumulatorsPass, activitiesPass, unfitBytes}
+use Rattle.wellformed.specs.Entries.{activity_is_fit, accumulator_entry, accumulator_entries}
+use Rattle.wellformed.specs.Passing.{passes, head_passes, accumulators_pass, activities_pass, unfit_bytes}
 use Rattle.wellformed.proofs.Numbers.{number_is}
 
 -- THE WHOLE
@@ -39,16 +39,16 @@ shuffle true true true true true true true false true = refl
 shuffle true true true true true true true false false = refl
 
 -- What is made, of a state's bytes.
-abbrev pub madeIn : List ℕ → Made
-madeIn b = record { activities = byte_at b 1; clocks = byte_at b 2; accumulators = byte_at b 3 }
+abbrev pub made_in : List ℕ → Made
+made_in b = record { activities = byte_at b 1; clocks = byte_at b 2; accumulators = byte_at b 3 }
 
 -- The length, the fields before the cells, the accumulators and the activities are one test.
 whole : (p : Program) (b : List ℕ)
-    → eqb (length b) 13776 && (headPasses p b && (accumulatorsPass (madeIn b) (part b 80 384) && activitiesPass p (madeIn b) (part b 464 13312))) ≡ passes p b
-unfolding passes encodes fieldsEncode wellFormed headPasses accumulatorsPass activitiesPass accumulatorEntries accumulatorEntry accumulatorsFit activitiesFit activityFits activityIsFit state_of
+    → eqb (length b) 13776 && (head_passes p b && (accumulators_pass (made_in b) (part b 80 384) && activities_pass p (made_in b) (part b 464 13312))) ≡ passes p b
+unfolding passes encodes fields_encode well_formed head_passes accumulators_pass activities_pass accumulator_entries accumulator_entry accumulators_fit activities_fit activity_fits activity_is_fit state_of
 whole p b =
-    shuffle (eqb (length b) 13776) (eqb (byte_at b 0) 1) (leb (number_of (part b 4 4)) 65535) (allZero (part b 8 8)) (partsPass 24 16 accumulatorEncodes (part b 80 384))
-    (partsPass 208 64 activityEncodes (part b 464 13312)) (countsFit p (state_of b)) (activitiesFit 65535 p (state_of b)) (accumulatorsFit (state_of b))
+    shuffle (eqb (length b) 13776) (eqb (byte_at b 0) 1) (leb (number_of (part b 4 4)) 65535) (all_zero (part b 8 8)) (parts_pass 24 16 accumulator_encodes (part b 80 384))
+    (parts_pass 208 64 activity_encodes (part b 464 13312)) (counts_fit p (state_of b)) (activities_fit 65535 p (state_of b)) (accumulators_fit (state_of b))
 
 module _ (p : Program) (b : List ℕ) where
   -- Another length.
@@ -57,24 +57,24 @@ module _ (p : Program) (b : List ℕ) where
 
   module _ (l : length b ≡ 13776) where
     -- The fields before the cells fail.
-    pub head-unfit : headPasses p b ≡ false → false ≡ passes p b
-    head-unfit h = rw (eq-eqb (length b) 13776 l, h) at (whole p b)
+    pub head_unfit : head_passes p b ≡ false → false ≡ passes p b
+    head_unfit h = rw (eq-eqb (length b) 13776 l, h) at (whole p b)
 
-    module _ (h : headPasses p b ≡ true) where
+    module _ (h : head_passes p b ≡ true) where
       -- The accumulators fail.
-      pub accumulators-unfit : accumulatorsPass (madeIn b) (part b 80 384) ≡ false → false ≡ passes p b
-      accumulators-unfit a = rw (eq-eqb (length b) 13776 l, h, a) at (whole p b)
+      pub accumulators_unfit : accumulators_pass (made_in b) (part b 80 384) ≡ false → false ≡ passes p b
+      accumulators_unfit a = rw (eq-eqb (length b) 13776 l, h, a) at (whole p b)
 
       -- The activities decide.
-      pub activities-left : {r : Bool} → accumulatorsPass (madeIn b) (part b 80 384) ≡ true → r ≡ activitiesPass p (madeIn b) (part b 464 13312) → r ≡ passes p b
-      activities-left a e = e ∙ rw (eq-eqb (length b) 13776 l, h, a) at (whole p b)
+      pub activities_left : {r : Bool} → accumulators_pass (made_in b) (part b 80 384) ≡ true → r ≡ activities_pass p (made_in b) (part b 464 13312) → r ≡ passes p b
+      activities_left a e = e ∙ rw (eq-eqb (length b) 13776 l, h, a) at (whole p b)
 
 -- THE NUMBERS 1 TO 13
 
 -- The bytes decide as one test.
-bytes-number : (n : ℕ) (p : Program) (b : List ℕ) → cond (eqb n 0) (cond (passes p b) 0 13) n ≡ unfitBytes n p b
-unfolding unfitBytes unfit passes
-bytes-number n p b = by (eqb n 0) (encodes b) (wellFormed 65535 p (state_of b))
+bytes_number : (n : ℕ) (p : Program) (b : List ℕ) → cond (eqb n 0) (cond (passes p b) 0 13) n ≡ unfit_bytes n p b
+unfolding unfit_bytes unfit passes
+bytes_number n p b = by (eqb n 0) (encodes b) (well_formed 65535 p (state_of b))
   where
     by : (z e w : Bool) → cond z (cond (e && w) 0 13) n ≡ cond e (cond z (cond w 0 13) n) (cond z 13 n)
     by true true w = refl
@@ -82,14 +82,14 @@ bytes-number n p b = by (eqb n 0) (encodes b) (wellFormed 65535 p (state_of b))
     by false true w = refl
     by false false w = refl
 
-module _ (t : List ℕ) (x : Table) (e : x ≡ table_of workLimit t) (b : List ℕ) where
+module _ (t : List ℕ) (x : Table) (e : x ≡ table_of work_limit t) (b : List ℕ) where
   -- A table that is turned down.
-  pub turned_down : (x.number ≡ 0 → ⊥) → x.number ≡ unfitBytes (table.number_of workLimit t) (program_of t) b
-  turned_down h = let q = number_is t x e in q ∙ rw (ne_eqb (table.number_of workLimit t) 0 (λ z. h (q ∙ z))) at (bytes-number (table.number_of workLimit t) (program_of t) b)
+  pub turned_down_lem : (x.number ≡ 0 → ⊥) → x.number ≡ unfit_bytes (table.number_of work_limit t) (program_of t) b
+  turned_down_lem h = let q = number_is t x e in q ∙ rw (ne_eqb (table.number_of work_limit t) 0 (λ z. h (q ∙ z))) at (bytes_number (table.number_of work_limit t) (program_of t) b)
 
   -- Of an accepted table the state decides.
-  pub fit : x.number ≡ 0 → passes (program_of t) b ≡ true → 0 ≡ unfitBytes (table.number_of workLimit t) (program_of t) b
-  fit z h = rw (eq-eqb (table.number_of workLimit t) 0 (sym (number_is t x e) ∙ z), h) at (bytes-number (table.number_of workLimit t) (program_of t) b)
+  pub fit : x.number ≡ 0 → passes (program_of t) b ≡ true → 0 ≡ unfit_bytes (table.number_of work_limit t) (program_of t) b
+  fit z h = rw (eq-eqb (table.number_of work_limit t) 0 (sym (number_is t x e) ∙ z), h) at (bytes_number (table.number_of work_limit t) (program_of t) b)
 
-  pub not-fit : x.number ≡ 0 → passes (program_of t) b ≡ false → 13 ≡ unfitBytes (table.number_of workLimit t) (program_of t) b
-  not-fit z h = rw (eq-eqb (table.number_of workLimit t) 0 (sym (number_is t x e) ∙ z), h) at (bytes-number (table.number_of workLimit t) (program_of t) b)
+  pub not_fit : x.number ≡ 0 → passes (program_of t) b ≡ false → 13 ≡ unfit_bytes (table.number_of work_limit t) (program_of t) b
+  not_fit z h = rw (eq-eqb (table.number_of work_limit t) 0 (sym (number_is t x e) ∙ z), h) at (bytes_number (table.number_of work_limit t) (program_of t) b)

@@ -14,121 +14,121 @@ use Rattle.rules.specs.declared.state.Hold.{Hold}
 use Rattle.rules.specs.declared.state.Registration.{Registration}
 use Rattle.rules.specs.declared.state.Registration.TheVariants.{Free, Live, Quiesced}
 use Rattle.rules.specs.Search.{all_below}
-use Rattle.rules.specs.State.{registrationNumber, frame, hold, bound, noFrame, noHold}
+use Rattle.rules.specs.State.{registration_number, frame, hold, bound, no_frame, no_hold}
 use Rattle.rules.specs.Clocks.{is_held}
-use Rattle.rules.specs.WellFormed.{is_placed, isNoHold, frameFits, stackFits, holdFits, bodyFits, barrierFits, namesFit, spawnerFits}
-use Rattle.rules.proofs.Tests.{and-true, true-false}
-use Rattle.rules.proofs.Search.{allBelow-at}
-use Rattle.encoding.specs.Bytes.{part, byte_at, allZero, partsPass}
-use Rattle.encoding.specs.Decode.{holdAt, activityAt, statusPasses, frameEncodes, holdEncodes, activityEncodes}
+use Rattle.rules.specs.WellFormed.{is_placed, is_no_hold, frame_fits, stack_fits, hold_fits, body_fits, barrier_fits, names_fit, spawner_fits}
+use Rattle.rules.proofs.Tests.{and_true, true_false}
+use Rattle.rules.proofs.Search.{all_below_at}
+use Rattle.encoding.specs.Bytes.{part, byte_at, all_zero, parts_pass}
+use Rattle.encoding.specs.Decode.{hold_at, activity_at, status_passes, frame_encodes, hold_encodes, activity_encodes}
 use Rattle.encoding.proofs.FieldLaws.{sized}
-use Rattle.encoding.proofs.PartLaws.{partsAt-at}
-use Rattle.entries.specs.Entries.{frameBytes, holdBytes}
-use Rattle.entries.proofs.ZeroLaws.{frame-unused, hold-unused}
+use Rattle.encoding.proofs.PartLaws.{parts_at_at}
+use Rattle.entries.specs.Entries.{frame_bytes, hold_bytes}
+use Rattle.entries.proofs.ZeroLaws.{frame_unused, hold_unused}
 use Rattle.entries.proofs.JoinLaws.{joined, tested}
 use Rattle.wellformed.specs.declared.made.Made.{Made}
-use Rattle.wellformed.specs.Entries.{activityIsFit}
-use Rattle.wellformed.specs.Passing.{stackPasses, holdsPass, activityPasses}
+use Rattle.wellformed.specs.Entries.{activity_is_fit}
+use Rattle.wellformed.specs.Passing.{stack_passes, holds_pass, activity_passes}
 use Rattle.wellformed.proofs.Loops.{Passed}
-use Rattle.wellformed.proofs.Laws.{fits-placed}
+use Rattle.wellformed.proofs.Laws.{fits_placed}
 
 -- THE STACK
 
 module _ (p : Program) (made : ℕ) (b : List ℕ) where
   -- a frame in use
-  abbrev pub frameTest : ℕ → Bool
-  frameTest d = frameEncodes (frameBytes b d) && frameFits p made (activityAt b) d
+  abbrev pub frame_test : ℕ → Bool
+  frame_test d = frame_encodes (frame_bytes b d) && frame_fits p made (activity_at b) d
 
   -- the bytes behind the frames in use
-  frames-tail : (m : ℕ) → length b ≡ 208 → drop (8 * m) (part b 80 128) ≡ drop (80 + 8 * m) b
-  frames-tail m l = ap (drop (8 * m)) (take_all 128 (drop 80 b) (rw (length-drop, l) (omega arith))) ∙ drop-drop (8 * m) 80 b
+  frames_tail : (m : ℕ) → length b ≡ 208 → drop (8 * m) (part b 80 128) ≡ drop (80 + 8 * m) b
+  frames_tail m l = ap (drop (8 * m)) (take_all 128 (drop 80 b) (rw (length-drop, l) (omega arith))) ∙ drop-drop (8 * m) 80 b
 
   -- the frames in use and the zeros behind them are a stack
-  pub stack-joined : byte_at b 7 ≤ 16 → length b ≡ 208 → all_below (byte_at b 7) frameTest && allZero (drop (80 + 8 * byte_at b 7) b) ≡ stackPasses p made b
-  unfolding stackPasses stackFits activityAt
-  stack-joined few l =
+  pub stack_joined : byte_at b 7 ≤ 16 → length b ≡ 208 → all_below (byte_at b 7) frame_test && all_zero (drop (80 + 8 * byte_at b 7) b) ≡ stack_passes p made b
+  unfolding stack_passes stack_fits activity_at
+  stack_joined few l =
       let m = byte_at b 7 in
-      ap (λ c. all_below m frameTest && allZero c) (sym (frames-tail m l))
-      ∙ joined frame-unused 16 m noFrame (part b 80 128) (frameFits p made (activityAt b)) few (sized b 80 128 128 refl (omega arith))
+      ap (λ c. all_below m frame_test && all_zero c) (sym (frames_tail m l))
+      ∙ joined frame_unused 16 m no_frame (part b 80 128) (frame_fits p made (activity_at b)) few (sized b 80 128 128 refl (omega arith))
       ∙ rw (le-leb m 16 few)
 
   -- none is too deep
-  pub stack-deep : 16 < byte_at b 7 → false ≡ stackPasses p made b
-  unfolding stackPasses stackFits activityAt
-  stack-deep l = rw (lt-leb (byte_at b 7) 16 l) (by (partsPass 8 16 frameEncodes (part b 80 128)))
+  pub stack_deep : 16 < byte_at b 7 → false ≡ stack_passes p made b
+  unfolding stack_passes stack_fits activity_at
+  stack_deep l = rw (lt-leb (byte_at b 7) 16 l) (by (parts_pass 8 16 frame_encodes (part b 80 128)))
     where
       by : (q : Bool) → false ≡ q && false
       by true = refl
       by false = refl
 
   -- the frame below one that is to be tested is at a place
-  pub below_at : {n d : ℕ} → Passed n frameTest d → 0 < d → is_placed p (frame (activityAt b) (d - 1)) ≡ true
-  below_at {d = d} h z = fits-placed p made (activityAt b) (d - 1) (and-true (frameEncodes (frameBytes b (d - 1))) _ (allBelow-at d frameTest h.all (d - 1) (omega arith))).1
+  pub below_at : {n d : ℕ} → Passed n frame_test d → 0 < d → is_placed p (frame (activity_at b) (d - 1)) ≡ true
+  below_at {d = d} h z = fits_placed p made (activity_at b) (d - 1) (and_true (frame_encodes (frame_bytes b (d - 1))) _ (all_below_at d frame_test h.all (d - 1) (omega arith))).1
 
 -- THE CLOCK NAMES
 
 -- a name that is all 0 is not held
-unheld : (h : Hold) → isNoHold h ≡ true → is_held h.registration ≡ false
-unheld h e = go h.registration (and-true (eqb h.clock 0) _ (and-true (eqb h.phase 0) _ e).1).1
+unheld : (h : Hold) → is_no_hold h ≡ true → is_held h.registration ≡ false
+unheld h e = go h.registration (and_true (eqb h.clock 0) _ (and_true (eqb h.phase 0) _ e).1).1
   where
-    go : (r : Registration) → eqb (registrationNumber r) 0 ≡ true → is_held r ≡ false
+    go : (r : Registration) → eqb (registration_number r) 0 ≡ true → is_held r ≡ false
     go Free e = refl
-    go Live e = absurd (true-false false e refl)
-    go Quiesced e = absurd (true-false false e refl)
+    go Live e = absurd (true_false false e refl)
+    go Quiesced e = absurd (true_false false e refl)
 
 -- bytes that are all 0 encode such a name
-zero-hold : (b : List ℕ) (k : ℕ) → k < 8 → length b ≡ 208 → allZero (holdBytes b k) ≡ true → (holdEncodes (holdBytes b k) ≡ true) × (isNoHold (hold (activityAt b) k) ≡ true)
-unfolding activityAt
-zero-hold b k j l z =
+zero_hold : (b : List ℕ) (k : ℕ) → k < 8 → length b ≡ 208 → all_zero (hold_bytes b k) ≡ true → (hold_encodes (hold_bytes b k) ≡ true) × (is_no_hold (hold (activity_at b) k) ≡ true)
+unfolding activity_at
+zero_hold b k j l z =
     let all = sized b 16 64 64 refl (omega arith) in
-    let h = and-true (holdEncodes (holdBytes b k)) _ (sym (hold-unused.is (holdBytes b k) (sized (part b 16 64) (8 * k) 8 8 refl (rw all (omega arith)))) ∙ z) in
-    (h.0, ap isNoHold (partsAt-at 8 8 k holdAt (part b 16 64) noHold j) ∙ h.1)
+    let h = and_true (hold_encodes (hold_bytes b k)) _ (sym (hold_unused.is (hold_bytes b k) (sized (part b 16 64) (8 * k) 8 8 refl (rw all (omega arith)))) ∙ z) in
+    (h.0, ap is_no_hold (parts_at_at 8 8 k hold_at (part b 16 64) no_hold j) ∙ h.1)
 
 module _ (made : ℕ) (b : List ℕ) where
   -- a clock name
-  abbrev pub holdTest : ℕ → Bool
-  holdTest k = holdEncodes (holdBytes b k) && holdFits 65535 made (activityAt b) k
+  abbrev pub hold_test : ℕ → Bool
+  hold_test k = hold_encodes (hold_bytes b k) && hold_fits 65535 made (activity_at b) k
 
   -- all of them
-  pub holds-tested : all_below 8 holdTest ≡ holdsPass made b
-  unfolding holdsPass
-  holds-tested = tested 8 8 holdEncodes (holdFits 65535 made (activityAt b)) (part b 16 64)
+  pub holds_tested : all_below 8 hold_test ≡ holds_pass made b
+  unfolding holds_pass
+  holds_tested = tested 8 8 hold_encodes (hold_fits 65535 made (activity_at b)) (part b 16 64)
 
   -- one whose bytes are all 0 is free
-  pub name_free : (k : ℕ) → k < 8 → length b ≡ 208 → allZero (holdBytes b k) ≡ true → true ≡ holdTest k
-  unfolding holdFits
-  name_free k j l z = let h = zero-hold b k j l z in rw (h.0, unheld (hold (activityAt b) k) h.1, h.1)
+  pub name_free : (k : ℕ) → k < 8 → length b ≡ 208 → all_zero (hold_bytes b k) ≡ true → true ≡ hold_test k
+  unfolding hold_fits
+  name_free k j l z = let h = zero_hold b k j l z in rw (h.0, unheld (hold (activity_at b) k) h.1, h.1)
 
 -- THE ACCUMULATOR NAMES
 
 module _ (made : ℕ) (b : List ℕ) where
   -- an accumulator name
-  abbrev pub nameTest : ℕ → Bool
-  nameTest n = leb (bound (activityAt b) n) made
+  abbrev pub name_test : ℕ → Bool
+  name_test n = leb (bound (activity_at b) n) made
 
   -- it is a byte
-  name-byte : {n : ℕ} → n < 8 → nameTest n ≡ leb (byte_at b (8 + n)) made
-  unfolding activityAt
-  name-byte {n} l = ap (λ x. leb x made) (get_or-take 8 (drop 8 b) n 0 l ∙ get_or-drop 8 b n 0)
+  name_byte : {n : ℕ} → n < 8 → name_test n ≡ leb (byte_at b (8 + n)) made
+  unfolding activity_at
+  name_byte {n} l = ap (λ x. leb x made) (get_or-take 8 (drop 8 b) n 0 l ∙ get_or-drop 8 b n 0)
 
   -- the greatest of the first n decides of them
-  pub greatest-none : leb 0 made ≡ all_below 0 nameTest
+  pub greatest_none : leb 0 made ≡ all_below 0 name_test
   unfolding all_below
-  greatest-none = le-leb 0 made (omega arith)
+  greatest_none = le-leb 0 made (omega arith)
 
   -- a greater one
-  pub greatest-more : {m n : ℕ} → leb m made ≡ all_below n nameTest → n < 8 → m < byte_at b (8 + n) → leb (byte_at b (8 + n)) made ≡ all_below (n + 1) nameTest
+  pub greatest_more : {m n : ℕ} → leb m made ≡ all_below n name_test → n < 8 → m < byte_at b (8 + n) → leb (byte_at b (8 + n)) made ≡ all_below (n + 1) name_test
   unfolding all_below
-  greatest-more {m} {n} e l h = rw (add-one n, name-byte l, ← e) (by (leb (byte_at b (8 + n)) made) refl)
+  greatest_more {m} {n} e l h = rw (add-one n, name_byte l, ← e) (by (leb (byte_at b (8 + n)) made) refl)
     where
       by : (q : Bool) → leb (byte_at b (8 + n)) made ≡ q → q ≡ q && leb m made
       by true t = let k = leb-true (byte_at b (8 + n)) made t in sym (le-leb m made (omega arith))
       by false t = refl
 
   -- one that is not greater
-  pub greatest-same : {m n : ℕ} → leb m made ≡ all_below n nameTest → n < 8 → byte_at b (8 + n) ≤ m → leb m made ≡ all_below (n + 1) nameTest
+  pub greatest_same : {m n : ℕ} → leb m made ≡ all_below n name_test → n < 8 → byte_at b (8 + n) ≤ m → leb m made ≡ all_below (n + 1) name_test
   unfolding all_below
-  greatest-same {m} {n} e l h = rw (add-one n, name-byte l, ← e) (by (leb m made) refl)
+  greatest_same {m} {n} e l h = rw (add-one n, name_byte l, ← e) (by (leb m made) refl)
     where
       by : (q : Bool) → leb m made ≡ q → q ≡ leb (byte_at b (8 + n)) made && q
       by true t = let k = leb-true m made t in rw (le-leb (byte_at b (8 + n)) made (omega arith))
@@ -139,8 +139,8 @@ module _ (made : ℕ) (b : List ℕ) where
           below false = refl
 
   -- all names
-  pub greatest-all : {q : Bool} {n : ℕ} → q ≡ all_below n nameTest → n ≤ 8 → 8 ≤ n → q ≡ all_below 8 nameTest
-  greatest-all {n = n} e l h = let all : n ≡ 8 = omega arith in rw all at e
+  pub greatest_all : {q : Bool} {n : ℕ} → q ≡ all_below n name_test → n ≤ 8 → 8 ≤ n → q ≡ all_below 8 name_test
+  greatest_all {n = n} e l h = let all : n ≡ 8 = omega arith in rw all at e
 
 -- THE WHOLE
 
@@ -158,25 +158,25 @@ shuffle true true true true false false ba re = refl
 
 -- the tests in the order of the code
 pub spawned : (p : Program) (made : Made) (i : ℕ) (b : List ℕ)
-    → statusPasses (byte_at b 4) (byte_at b 5)
-    && (stackPasses p made.activities b
-    && (holdsPass made.clocks b
-    && (bodyFits (activityAt b)
-    && (barrierFits p (activityAt b)
-    && (namesFit (activityAt b) && (all_below 8 (λ n. leb (bound (activityAt b) n) made.accumulators) && spawnerFits i (activityAt b)))))))
-    ≡ activityPasses p made i b
-unfolding activityPasses activityEncodes activityIsFit stackPasses holdsPass
+    → status_passes (byte_at b 4) (byte_at b 5)
+    && (stack_passes p made.activities b
+    && (holds_pass made.clocks b
+    && (body_fits (activity_at b)
+    && (barrier_fits p (activity_at b)
+    && (names_fit (activity_at b) && (all_below 8 (λ n. leb (bound (activity_at b) n) made.accumulators) && spawner_fits i (activity_at b)))))))
+    ≡ activity_passes p made i b
+unfolding activity_passes activity_encodes activity_is_fit stack_passes holds_pass
 spawned p made i b =
-    shuffle (statusPasses (byte_at b 4) (byte_at b 5)) (partsPass 8 8 holdEncodes (part b 16 64)) (partsPass 8 16 frameEncodes (part b 80 128)) (stackFits p made.activities (activityAt b))
-    (all_below 8 (holdFits 65535 made.clocks (activityAt b))) (bodyFits (activityAt b)) (barrierFits p (activityAt b))
-    (namesFit (activityAt b) && (all_below 8 (λ n. leb (bound (activityAt b) n) made.accumulators) && spawnerFits i (activityAt b)))
+    shuffle (status_passes (byte_at b 4) (byte_at b 5)) (parts_pass 8 8 hold_encodes (part b 16 64)) (parts_pass 8 16 frame_encodes (part b 80 128)) (stack_fits p made.activities (activity_at b))
+    (all_below 8 (hold_fits 65535 made.clocks (activity_at b))) (body_fits (activity_at b)) (barrier_fits p (activity_at b))
+    (names_fit (activity_at b) && (all_below 8 (λ n. leb (bound (activity_at b) n) made.accumulators) && spawner_fits i (activity_at b)))
 
 -- what a test that passed says of its parts
-pub holds-whole : (made : ℕ) (b : List ℕ) → holdsPass made b ≡ true → partsPass 8 8 holdEncodes (part b 16 64) ≡ true
-unfolding holdsPass
-holds-whole made b e = (and-true (partsPass 8 8 holdEncodes (part b 16 64)) _ e).0
+pub holds_whole : (made : ℕ) (b : List ℕ) → holds_pass made b ≡ true → parts_pass 8 8 hold_encodes (part b 16 64) ≡ true
+unfolding holds_pass
+holds_whole made b e = (and_true (parts_pass 8 8 hold_encodes (part b 16 64)) _ e).0
 
 -- of the stack
-pub stack-fit : (p : Program) (made : ℕ) (b : List ℕ) → stackPasses p made b ≡ true → stackFits p made (activityAt b) ≡ true
-unfolding stackPasses
-stack-fit p made b e = (and-true (partsPass 8 16 frameEncodes (part b 80 128)) _ e).1
+pub stack_fit : (p : Program) (made : ℕ) (b : List ℕ) → stack_passes p made b ≡ true → stack_fits p made (activity_at b) ≡ true
+unfolding stack_passes
+stack_fit p made b e = (and_true (parts_pass 8 16 frame_encodes (part b 80 128)) _ e).1

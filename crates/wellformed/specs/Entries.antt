@@ -6,32 +6,32 @@ use Rattle.rules.specs.declared.state.Hold.{Hold}
 use Rattle.rules.specs.declared.state.Activity.{Activity}
 use Rattle.rules.specs.declared.state.Accumulator.{Accumulator}
 use Rattle.rules.specs.Search.{all_below}
-use Rattle.rules.specs.State.{bound, noAccumulator}
+use Rattle.rules.specs.State.{bound, no_accumulator}
 use Rattle.rules.specs.Clocks.{is_held}
-use Rattle.rules.specs.WellFormed.{isNoHold, isNoAccumulator, stackFits, bodyFits, barrierFits, holdFits, namesFit, spawnerFits}
+use Rattle.rules.specs.WellFormed.{is_no_hold, is_no_accumulator, stack_fits, body_fits, barrier_fits, hold_fits, names_fit, spawner_fits}
 use Rattle.wellformed.specs.declared.made.Made.{Made}
 
 -- A hold: "phase is over its limit", "an unmade thing is named"; a free one is all 0.
-unfoldable pub holdIsFit : ℕ → ℕ → Hold → Bool
-holdIsFit limit made h = cond (is_held h.registration) (leb h.phase limit && ltb h.clock made) (isNoHold h)
+unfoldable pub hold_is_fit : ℕ → ℕ → Hold → Bool
+hold_is_fit limit made h = cond (is_held h.registration) (leb h.phase limit && ltb h.clock made) (is_no_hold h)
 
 -- Two holds are not two names for one clock.
-unfoldable pub areApart : Hold → Hold → Bool
-areApart x y = not (is_held x.registration && is_held y.registration) || not (eqb x.clock y.clock)
+unfoldable pub are_apart : Hold → Hold → Bool
+are_apart x y = not (is_held x.registration && is_held y.registration) || not (eqb x.clock y.clock)
 
 -- An activity that was spawned, number i.
-unfoldable pub activityIsFit : Program → Made → ℕ → Activity → Bool
-activityIsFit p made i a =
-    stackFits p made.activities a
-    && (bodyFits a
-    && (barrierFits p a
-    && (all_below 8 (holdFits 65535 made.clocks a)
-    && (namesFit a && (all_below 8 (λ n. leb (bound a n) made.accumulators) && spawnerFits i a)))))
+unfoldable pub activity_is_fit : Program → Made → ℕ → Activity → Bool
+activity_is_fit p made i a =
+    stack_fits p made.activities a
+    && (body_fits a
+    && (barrier_fits p a
+    && (all_below 8 (hold_fits 65535 made.clocks a)
+    && (names_fit a && (all_below 8 (λ n. leb (bound a n) made.accumulators) && spawner_fits i a)))))
 
 -- Each made one is as it should be, each other one all 0.
-unfoldable pub accumulatorEntry : Made → ℕ → Accumulator → Bool
-accumulatorEntry made n x = cond (ltb n made.accumulators) (ltb x.owner made.activities) (isNoAccumulator x)
+unfoldable pub accumulator_entry : Made → ℕ → Accumulator → Bool
+accumulator_entry made n x = cond (ltb n made.accumulators) (ltb x.owner made.activities) (is_no_accumulator x)
 
 -- Each of the 16 entries.
-unfoldable pub accumulatorEntries : Made → List Accumulator → Bool
-accumulatorEntries made accs = all_below 16 (λ n. accumulatorEntry made n (get_or accs n noAccumulator))
+unfoldable pub accumulator_entries : Made → List Accumulator → Bool
+accumulator_entries made accs = all_below 16 (λ n. accumulator_entry made n (get_or accs n no_accumulator))

@@ -2,12 +2,12 @@
 ghost use Rattle.std.specs.Prelude.{◌<◌, ◌-◌, length, true, ◌&&◌, ◌≡◌};
 ghost use Rattle.program.specs.Bodies.{program_of};
 ghost use Rattle.rules.specs.State.{frame};
-ghost use Rattle.rules.specs.WellFormed.{is_placed, isStacked, frameFits};
-ghost use Rattle.encoding.specs.Decode.{activityAt, frameEncodes};
-ghost use Rattle.entries.specs.Entries.{frameBytes};
+ghost use Rattle.rules.specs.WellFormed.{is_placed, is_stacked, frame_fits};
+ghost use Rattle.encoding.specs.Decode.{activity_at, frame_encodes};
+ghost use Rattle.entries.specs.Entries.{frame_bytes};
 ghost use Rattle.places.specs.Known.{Known};
 ghost use Rattle.wellformed.specs.Marked.{Marked};
-ghost use Rattle.wellformed.specs.Passing.{stackPasses};
+ghost use Rattle.wellformed.specs.Passing.{stack_passes};
 
 use super::marks::is_placed;
 use super::runs::{is_bottom, run_by};
@@ -19,7 +19,7 @@ use rules::state::Frame;
 // A frame on another: it is run by the other's command, and stacked bodies rise.
 fn is_stacked(table: &[u8], starts: &[usize], made: u8, below: Frame, f: Frame) -> bool
     requires { (Known table.now starts.now) × (is_placed (program_of table.now) below ≡ true) }
-    ensures { result ≡ isStacked (program_of table.now) made below f }
+    ensures { result ≡ is_stacked (program_of table.now) made below f }
 {
     run_by(made, command_at(table, starts, below), f) && below.body < f.body
 }
@@ -33,8 +33,8 @@ fn frame_passes(
     a: &[u8],
     d: usize,
 ) -> bool
-    requires { (Marked table.now starts.now marks.now) × (length a.now ≡ 208) × (d < 16) × (0 < d → is_placed (program_of table.now) (frame (activityAt a.now) (d - 1)) ≡ true) }
-    ensures { result ≡ (frameEncodes (frameBytes a.now d) && frameFits (program_of table.now) made (activityAt a.now) d) }
+    requires { (Marked table.now starts.now marks.now) × (length a.now ≡ 208) × (d < 16) × (0 < d → is_placed (program_of table.now) (frame (activity_at a.now) (d - 1)) ≡ true) }
+    ensures { result ≡ (frame_encodes (frame_bytes a.now d) && frame_fits (program_of table.now) made (activity_at a.now) d) }
 {
     if !frame_whole(a, d) {
         return false;
@@ -53,7 +53,7 @@ fn frame_passes(
 // The frames of a stack; all bytes behind them are 0.
 pub fn stack_passes(table: &[u8], starts: &[usize], marks: &[u8; 2048], made: u8, a: &[u8]) -> bool
     requires { (Marked table.now starts.now marks.now) × (length a.now ≡ 208) }
-    ensures { result ≡ stackPasses (program_of table.now) made a.now }
+    ensures { result ≡ stack_passes (program_of table.now) made a.now }
 {
     let depth = wide(a[7]);
     if 16 < depth {

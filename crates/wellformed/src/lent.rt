@@ -1,9 +1,9 @@
 // Number 13 over the bytes of a state.
 ghost use Rattle.std.specs.Prelude.{◌≤◌, ◌≡◌, length};
 ghost use Rattle.program.specs.Bodies.{Program, program_of};
-ghost use Rattle.program.specs.Count.{workOf};
+ghost use Rattle.program.specs.Count.{work_of};
 ghost use Rattle.wellformed.specs.Marked.{Marked};
-ghost use Rattle.wellformed.specs.Passing.{passes, headPasses, accumulatorPasses, accumulatorsPass, activitiesPass};
+ghost use Rattle.wellformed.specs.Passing.{passes, head_passes, accumulator_passes, accumulators_pass, activities_pass};
 
 use super::made::Made;
 use super::within::spawned_passes;
@@ -35,7 +35,7 @@ fn wide_steps(x: u32) -> u64
 // The fields before the cells: the version, the counts and the reserved bytes.
 fn head_passes(work: u64, state: &[u8]) -> bool
     requires { length state.now ≡ 13776 }
-    ensures { (p : Program) → work ≡ workOf p → result ≡ headPasses p state.now }
+    ensures { (p : Program) → work ≡ work_of p → result ≡ head_passes p state.now }
 {
     if state[0] != 1 {
         return false;
@@ -62,7 +62,7 @@ fn head_passes(work: u64, state: &[u8]) -> bool
 // An accumulator that was made: its operator, its reserved bytes, its owner.
 fn accumulator_passes(made: Made, bytes: &[u8]) -> bool
     requires { length bytes.now ≡ 24 }
-    ensures { result ≡ accumulatorPasses made bytes.now }
+    ensures { result ≡ accumulator_passes made bytes.now }
 {
     if OPERATORS < bytes[5] {
         return false;
@@ -76,7 +76,7 @@ fn accumulator_passes(made: Made, bytes: &[u8]) -> bool
 // The accumulators: each that was made is as it should be, all bytes behind them are 0.
 fn accumulators_pass(made: Made, bytes: &[u8]) -> bool
     requires { (length bytes.now ≡ 384) × (made.accumulators ≤ 16) }
-    ensures { result ≡ accumulatorsPass made bytes.now }
+    ensures { result ≡ accumulators_pass made bytes.now }
 {
     let many = wide(made.accumulators);
     let mut i: usize = 0;
@@ -100,7 +100,7 @@ fn activities_pass(
     bytes: &[u8],
 ) -> bool
     requires { (Marked table.now starts.now marks.now) × (length bytes.now ≡ 13312) × (made.activities ≤ 64) }
-    ensures { result ≡ activitiesPass (program_of table.now) made bytes.now }
+    ensures { result ≡ activities_pass (program_of table.now) made bytes.now }
 {
     let spawned = wide(made.activities);
     let mut i: usize = 0;
@@ -123,7 +123,7 @@ pub fn state_passes(
     work: u64,
     state: &[u8],
 ) -> bool
-    requires { (Marked table.now starts.now marks.now) × (work ≡ workOf (program_of table.now)) }
+    requires { (Marked table.now starts.now marks.now) × (work ≡ work_of (program_of table.now)) }
     ensures { result ≡ passes (program_of table.now) state.now }
 {
     if state.len() != LENGTH {

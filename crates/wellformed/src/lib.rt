@@ -1,8 +1,8 @@
 // Number 13 of document 01: whether a state is fit for its table.
 ghost use Rattle.std.specs.Prelude.{◌≡◌};
 ghost use Rattle.program.specs.Bodies.{program_of};
-ghost use Rattle.program.specs.Table.{workLimit, number_of, table_of};
-ghost use Rattle.wellformed.specs.Passing.{unfitBytes};
+ghost use Rattle.program.specs.Table.{work_limit, number_of, table_of};
+ghost use Rattle.wellformed.specs.Passing.{unfit_bytes};
 
 use lent::state_passes;
 use program::table::{Table, read_places};
@@ -25,7 +25,7 @@ pub struct Checked {
 
 // Numbers 1 to 13 in checking order: the table's, then the state's; 13 too where its bytes encode none.
 pub fn check_state(table: &[u8], state: &[u8]) -> Checked
-    ensures { (result.number ≡ unfitBytes (number_of workLimit table.now) (program_of table.now) state.now) × (result.table ≡ table_of workLimit table.now) }
+    ensures { (result.number ≡ unfit_bytes (number_of work_limit table.now) (program_of table.now) state.now) × (result.table ≡ table_of work_limit table.now) }
 {
     let mut marks = [0u8; 2048];
     let read = read_places(table, &mut marks);

@@ -1,6 +1,6 @@
 // What runs a frame: a FINISH, a REPEAT, a CHOOSE, or, at the bottom, no command of its activity.
 ghost use Rattle.std.specs.Prelude.{eqb, leb, ◌&&◌, ◌≡◌};
-ghost use Rattle.rules.specs.WellFormed.{runBy, isBottom};
+ghost use Rattle.rules.specs.WellFormed.{run_by, is_bottom};
 
 use program::command::{Command, named, opcode, times, wide};
 use rules::state::Frame;
@@ -37,7 +37,7 @@ fn repeat_runs(n: usize, b: usize, f: Frame) -> bool
 
 // A stacked body is the one run by the FINISH, REPEAT or CHOOSE of the body below it.
 pub fn run_by(made: u8, command: Command, f: Frame) -> bool
-    ensures { result ≡ runBy made command f }
+    ensures { result ≡ run_by made command f }
 {
     let op = opcode(command);
     if op == FINISH {
@@ -54,7 +54,7 @@ pub fn run_by(made: u8, command: Command, f: Frame) -> bool
 
 // The frame at the bottom has no runs and no first activity.
 pub fn is_bottom(f: Frame) -> bool
-    ensures { result ≡ isBottom f }
+    ensures { result ≡ is_bottom f }
 {
     f.runs == 0 && f.first == 0
 }

@@ -3,12 +3,12 @@ ghost use Rattle.std.specs.Prelude.{ℕ, leb, length, true, ◌≡◌};
 ghost use Rattle.program.specs.Bodies.{program_of};
 ghost use Rattle.rules.specs.Search.{all_below};
 ghost use Rattle.rules.specs.State.{bound};
-ghost use Rattle.rules.specs.WellFormed.{stackFits, bodyFits, barrierFits, spawnerFits};
-ghost use Rattle.encoding.specs.Bytes.{part, partsPass};
-ghost use Rattle.encoding.specs.Decode.{activityAt, holdEncodes};
+ghost use Rattle.rules.specs.WellFormed.{stack_fits, body_fits, barrier_fits, spawner_fits};
+ghost use Rattle.encoding.specs.Bytes.{part, parts_pass};
+ghost use Rattle.encoding.specs.Decode.{activity_at, hold_encodes};
 ghost use Rattle.places.specs.Known.{Known};
 ghost use Rattle.wellformed.specs.Marked.{Marked};
-ghost use Rattle.wellformed.specs.Passing.{activityPasses};
+ghost use Rattle.wellformed.specs.Passing.{activity_passes};
 
 use super::frames::stack_passes;
 use super::made::Made;
@@ -23,8 +23,8 @@ const NEXT: usize = 1;
 
 // An unended activity has a body, an ended one has no body and no clock.
 fn body_fits(a: &[u8]) -> bool
-    requires { (length a.now ≡ 208) × (partsPass 8 8 holdEncodes (part a.now 16 64) ≡ true) }
-    ensures { result ≡ bodyFits (activityAt a.now) }
+    requires { (length a.now ≡ 208) × (parts_pass 8 8 hold_encodes (part a.now 16 64) ≡ true) }
+    ensures { result ≡ body_fits (activity_at a.now) }
 {
     let status = status_in(a);
     if is_ended(status) {
@@ -35,8 +35,8 @@ fn body_fits(a: &[u8]) -> bool
 
 // A standing at a meeting is on NEXT.
 fn barrier_fits(table: &[u8], starts: &[usize], made: u8, a: &[u8]) -> bool
-    requires { (Known table.now starts.now) × (length a.now ≡ 208) × (stackFits (program_of table.now) made (activityAt a.now) ≡ true) × (bodyFits (activityAt a.now) ≡ true) }
-    ensures { result ≡ barrierFits (program_of table.now) (activityAt a.now) }
+    requires { (Known table.now starts.now) × (length a.now ≡ 208) × (stack_fits (program_of table.now) made (activity_at a.now) ≡ true) × (body_fits (activity_at a.now) ≡ true) }
+    ensures { result ≡ barrier_fits (program_of table.now) (activity_at a.now) }
 {
     let status = status_in(a);
     if !is_at_barrier(status) {
@@ -49,7 +49,7 @@ fn barrier_fits(table: &[u8], starts: &[usize], made: u8, a: &[u8]) -> bool
 // No unmade accumulator is named: the greatest name decides.
 fn bindings_fit(made: u8, a: &[u8]) -> bool
     requires { length a.now ≡ 208 }
-    ensures { result ≡ all_below 8 (λ (n : ℕ). leb (bound (activityAt a.now) n) made) }
+    ensures { result ≡ all_below 8 (λ (n : ℕ). leb (bound (activity_at a.now) n) made) }
 {
     let mut most: u8 = 0;
     let mut n: usize = 0;
@@ -66,7 +66,7 @@ fn bindings_fit(made: u8, a: &[u8]) -> bool
 // A spawner is lower than its child; main has none.
 fn spawner_fits(i: usize, a: &[u8]) -> bool
     requires { length a.now ≡ 208 }
-    ensures { result ≡ spawnerFits i (activityAt a.now) }
+    ensures { result ≡ spawner_fits i (activity_at a.now) }
 {
     if i == 0 {
         return a[6] == 0;
@@ -84,7 +84,7 @@ pub fn spawned_passes(
     a: &[u8],
 ) -> bool
     requires { (Marked table.now starts.now marks.now) × (length a.now ≡ 208) }
-    ensures { result ≡ activityPasses (program_of table.now) made i a.now }
+    ensures { result ≡ activity_passes (program_of table.now) made i a.now }
 {
     if !status_whole(a) {
         return false;

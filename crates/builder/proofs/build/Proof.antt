@@ -2,10 +2,10 @@
 use native.Mathlib.Omega.{arith}
 use mathlib.Core.Path.{◌≡◌, sym, ap, ◌∙◌}
 use borrow.Author.Rules.{rules}
-use Rattle.program.specs.Table.{workLimit, number_of}
+use Rattle.program.specs.Table.{work_limit, number_of}
 use Rattle.program.specs.declared.table.Table.{Table}
-use Rattle.program.proofs.ShapeLaws.{table-number}
-use Rattle.builder.specs.Build.{listBytes}
+use Rattle.program.proofs.ShapeLaws.{table_number}
+use Rattle.builder.specs.Build.{list_bytes}
 use Rattle.builder.specs.Filled.{Written}
 use Rattle.builder.proofs.Answers.{unmade, made, written-long, written-inside, written-number, written-bytes, build-refused, build-short, build-done}
 use Rattle.builder.proofs.build.Statement.{statement}
@@ -16,10 +16,10 @@ written : (c : tie.Else1) → Written c.before.before.before.before.before.args.
 written c = made c.before.before.fill.ensures c.if1.false
 
 -- The reader's number is that of the list's bytes.
-number-here : (c : tie.After-struct-known) → c.before.read_table.result.number ≡ number_of workLimit (listBytes c.before.before.before.before.before.before.before.before.args.entries.now)
-number-here c = ap (λ (x : Table). x.number) c.before.read_table.ensures ∙ table-number workLimit _ ∙ written-number (written c.before.before.before)
+number-here : (c : tie.After-struct-known) → c.before.read_table.result.number ≡ number_of work_limit (list_bytes c.before.before.before.before.before.before.before.before.args.entries.now)
+number-here c = ap (λ (x : Table). x.number) c.before.read_table.ensures ∙ table_number work_limit _ ∙ written-number (written c.before.before.before)
 
-accepted : (c : tie.Else2) → number_of workLimit (listBytes c.before.before.before.before.before.before.before.before.before.args.entries.now) ≡ 0
+accepted : (c : tie.Else2) → number_of work_limit (list_bytes c.before.before.before.before.before.before.before.before.before.args.entries.now) ≡ 0
 accepted c = sym (number-here c.before) ∙ c.if2.false
 
 returns : tie.Need-returns

@@ -3,22 +3,22 @@ use native.Mathlib.Omega.{arith}
 use mathlib.Core.Path.{◌≡◌, sym, ap, ◌∙◌}
 use borrow.Author.Rules.{rules}
 use Rattle.program.specs.Scan.{scan}
-use Rattle.program.specs.Table.{workLimit, number_of}
+use Rattle.program.specs.Table.{work_limit, number_of}
 use Rattle.program.specs.declared.table.Table.{Table}
-use Rattle.program.proofs.ShapeLaws.{table-number, numbered}
+use Rattle.program.proofs.ShapeLaws.{table_number, numbered}
 use Rattle.builder.proofs.Answers.{list-refused, list-short, list_done}
 use Rattle.builder.proofs.list.Statement.{statement}
 use Rattle.builder.proofs.list.Tie as tie
 
-number-here : (c : tie.After-struct-known) → c.before.read_table.result.number ≡ number_of workLimit c.before.before.before.args.table.now
-number-here c = ap (λ (x : Table). x.number) c.before.read_table.ensures ∙ table-number workLimit _
+number-here : (c : tie.After-struct-known) → c.before.read_table.result.number ≡ number_of work_limit c.before.before.before.args.table.now
+number-here c = ap (λ (x : Table). x.number) c.before.read_table.ensures ∙ table_number work_limit _
 
-accepted : (c : tie.Else1) → number_of workLimit c.before.before.before.before.args.table.now ≡ 0
+accepted : (c : tie.Else1) → number_of work_limit c.before.before.before.before.args.table.now ≡ 0
 accepted c = sym (number-here c.before) ∙ c.if1.false
 
 -- It passes the scan.
 passed : (c : tie.Else1) → scan c.before.before.before.before.args.table.now ≡ 0
-passed c = numbered workLimit _ (accepted c)
+passed c = numbered work_limit _ (accepted c)
 
 returns : tie.Need-returns
 returns c =

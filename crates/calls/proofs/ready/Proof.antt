@@ -1,7 +1,7 @@
 -- The check decides.
 use native.Mathlib.Omega.{arith}
 use Rattle.calls.proofs.Checking.{passed, known_read}
-use Rattle.calls.proofs.Telling.{ready_refused, ready-told}
+use Rattle.calls.proofs.Telling.{ready_refused, ready_told}
 use borrow.Author.Rules.{rules}
 use Rattle.calls.proofs.ready.Statement.{statement}
 use Rattle.calls.proofs.ready.Tie as tie
@@ -24,7 +24,7 @@ returns-2 c =
     let t = a.table.now in
     let b = a.state.now in
     let e = k.check-state.ensures.0 in
-    ready-told t b e h.if1.false (λ i. omega (arith, k.before.shared-slice-known2.given i)) (known_read t k.check-state.ensures.1 (passed t b e h.if1.false).accepted) c.ready-set.ensures
+    ready_told t b e h.if1.false (λ i. omega (arith, k.before.shared-slice-known2.given i)) (known_read t k.check-state.ensures.1 (passed t b e h.if1.false).accepted) c.ready-set.ensures
 
 pub ready-spec : {M : Type 1} → statement M
 ready-spec =

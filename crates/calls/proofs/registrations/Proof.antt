@@ -1,6 +1,6 @@
 -- The check decides, then the room.
 use native.Mathlib.Omega.{arith}
-use Rattle.calls.proofs.Telling.{sheet-refused, sheet-length, sheet-told}
+use Rattle.calls.proofs.Telling.{sheet_refused, sheet_length, sheet_told}
 use borrow.Author.Rules.{rules}
 use Rattle.calls.proofs.registrations.Statement.{statement}
 use Rattle.calls.proofs.registrations.Tie as tie
@@ -15,14 +15,14 @@ returns c =
     let h = p.before.before in
     let k = h.before in
     let a = (begun k).args in
-    sheet-refused a.table.now a.state.now k.check-state.ensures.0 a.sheet.now h.if1.true p.put-none.ensures
+    sheet_refused a.table.now a.state.now k.check-state.ensures.0 a.sheet.now h.if1.true p.put-none.ensures
 
 returns-2 : tie.Need-returns-2
 returns-2 c =
     let h = c.before in
     let k = h.before in
     let a = (begun k).args in
-    sheet-length a.table.now a.state.now k.check-state.ensures.0 a.sheet.now h.if1.false c.if2.true
+    sheet_length a.table.now a.state.now k.check-state.ensures.0 a.sheet.now h.if1.false c.if2.true
 
 returns-3 : tie.Need-returns-3
 returns-3 c =
@@ -31,7 +31,7 @@ returns-3 c =
     let h = l.before in
     let k = h.before in
     let a = (begun k).args in
-    sheet-told a.table.now a.state.now k.check-state.ensures.0 a.sheet.now h.if1.false (λ i. omega (arith, k.before.before.shared-slice-known2.given i)) l.if2.false
+    sheet_told a.table.now a.state.now k.check-state.ensures.0 a.sheet.now h.if1.false (λ i. omega (arith, k.before.before.shared-slice-known2.given i)) l.if2.false
     p.put-rows.ensures
 
 pub registrations-spec : {M : Type 1} → statement M

@@ -1,7 +1,7 @@
 -- The table's number decides, then the length.
 use mathlib.Core.Path.{sym, ◌∙◌}
 use Rattle.calls.proofs.Checking.{number_read}
-use Rattle.calls.proofs.Starting.{start-refused, start-length, start-done}
+use Rattle.calls.proofs.Starting.{start_refused, start_length, start_done}
 use borrow.Author.Rules.{rules}
 use Rattle.calls.proofs.start.Statement.{statement}
 use Rattle.calls.proofs.start.Tie as tie
@@ -16,13 +16,13 @@ returns c =
     let z = p.before.before in
     let r = z.before in
     let a = (begun r).args in
-    start-refused a.table.now a.state.now (number_read a.table.now r.read_table.ensures) z.if1.true p.put-none.ensures
+    start_refused a.table.now a.state.now (number_read a.table.now r.read_table.ensures) z.if1.true p.put-none.ensures
 
 returns-2 : tie.Need-returns-2
 returns-2 c =
     let r = c.before.before in
     let a = (begun r).args in
-    start-length a.table.now a.state.now (sym (number_read a.table.now r.read_table.ensures) ∙ c.before.if1.false) c.if2.true
+    start_length a.table.now a.state.now (sym (number_read a.table.now r.read_table.ensures) ∙ c.before.if1.false) c.if2.true
 
 returns-3 : tie.Need-returns-3
 returns-3 c =
@@ -31,7 +31,7 @@ returns-3 c =
     let e = s.before in
     let r = e.before in
     let a = (begun r).args in
-    start-done a.table.now a.state.now (sym (number_read a.table.now r.read_table.ensures) ∙ e.if1.false) s.if2.false p.put-start.ensures
+    start_done a.table.now a.state.now (sym (number_read a.table.now r.read_table.ensures) ∙ e.if1.false) s.if2.false p.put-start.ensures
 
 pub start_spec : {M : Type 1} → statement M
 start_spec =

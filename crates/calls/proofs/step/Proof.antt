@@ -1,7 +1,7 @@
 -- The check decides, then the turn.
 use native.Mathlib.Omega.{arith}
-use Rattle.calls.proofs.Checking.{passed, known_read, work-read, work-small}
-use Rattle.calls.proofs.Stepping.{step_kept, step-turned}
+use Rattle.calls.proofs.Checking.{passed, known_read, work_read, work_small}
+use Rattle.calls.proofs.Stepping.{step_kept, step_turned}
 use borrow.Author.Rules.{rules}
 use Rattle.calls.proofs.step.Statement.{statement}
 use Rattle.calls.proofs.step.Tie as tie
@@ -26,7 +26,7 @@ returns-2 c =
     let e = k.check-state.ensures.0 in
     let n = (passed t a.state.now e h.if1.false).accepted in
     let q = k.check-state.ensures.1 in
-    step-turned t a.state.now a.activity e h.if1.false (λ i. omega (arith, k.before.before.slice-known.given i)) (known_read t q n) (work-read t q n) (work-small t q n) u.turn.ensures
+    step_turned t a.state.now a.activity e h.if1.false (λ i. omega (arith, k.before.before.slice-known.given i)) (known_read t q n) (work_read t q n) (work_small t q n) u.turn.ensures
 
 pub step_spec : {M : Type 1} → statement M
 step_spec =

@@ -1,7 +1,7 @@
 -- The table's number decides, then the length, then the room; then the order is followed from the start.
 use mathlib.Core.Path.{refl, sym, ◌∙◌}
-use Rattle.calls.proofs.Checking.{number_read, known_read, work-read, work-small}
-use Rattle.calls.proofs.Running.{run-refused, run_length, run_short, run-followed}
+use Rattle.calls.proofs.Checking.{number_read, known_read, work_read, work_small}
+use Rattle.calls.proofs.Running.{run_refused, run_length, run_short, run_followed}
 use borrow.Author.Rules.{rules}
 use Rattle.calls.proofs.trace.Statement.{statement}
 use Rattle.calls.proofs.trace.Tie as tie
@@ -14,7 +14,7 @@ returns : tie.Need-returns
 returns c =
     let r = c.before in
     let a = (begun r).args in
-    run-refused a.table.now a.order.now a.answers.now a.counts.now a.state.now (number_read a.table.now r.read_table.ensures) c.if1.true
+    run_refused a.table.now a.order.now a.answers.now a.counts.now a.state.now (number_read a.table.now r.read_table.ensures) c.if1.true
 
 returns-2 : tie.Need-returns-2
 returns-2 c =
@@ -43,7 +43,7 @@ returns-4 c =
     let t = a.table.now in
     let q = r.read_table.ensures in
     let z = sym (number_read t q) ∙ e.if1.false in
-    run-followed t a.order.now a.answers.now a.counts.now a.state.now z l.if2.false o.if3.false (known_read t q z) (work-read t q z) (work-small t q z) refl
+    run_followed t a.order.now a.answers.now a.counts.now a.state.now z l.if2.false o.if3.false (known_read t q z) (work_read t q z) (work_small t q z) refl
     n.put-start.ensures f.follow.ensures
 
 pub trace-spec : {M : Type 1} → statement M

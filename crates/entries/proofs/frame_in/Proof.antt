@@ -2,8 +2,8 @@
 use native.Mathlib.Omega.{arith}
 use mathlib.Core.Path.{ap, ◌∙◌}
 use borrow.Author.Rules.{rules}
-use Rattle.encoding.specs.Decode.{frameAt}
-use Rattle.entries.proofs.EntryLaws.{frame-bytes, frame_is}
+use Rattle.encoding.specs.Decode.{frame_at}
+use Rattle.entries.proofs.EntryLaws.{frame_bytes_lem, frame_is}
 use Rattle.entries.proofs.frame_in.Statement.{statement}
 use Rattle.entries.proofs.frame_in.Tie as tie
 
@@ -14,7 +14,7 @@ returns-2 : tie.Need-returns-2
 returns-2 c = λ l j. absurd (let z : ⊥ = omega arith in z)
 
 returns-3 : tie.Need-returns-3
-returns-3 c = λ l j. c.frame_at.ensures ∙ ap frameAt (frame-bytes _ _ j) ∙ frame_is _ _ j
+returns-3 c = λ l j. c.frame_at.ensures ∙ ap frame_at (frame_bytes_lem _ _ j) ∙ frame_is _ _ j
 
 pub frame-in-spec : {M : Type 1} → statement M
 frame-in-spec =

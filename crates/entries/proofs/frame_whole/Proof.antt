@@ -2,8 +2,8 @@
 use native.Mathlib.Omega.{arith}
 use mathlib.Core.Path.{ap, ◌∙◌}
 use borrow.Author.Rules.{rules}
-use Rattle.encoding.specs.Decode.{frameEncodes}
-use Rattle.entries.proofs.EntryLaws.{frame-bytes}
+use Rattle.encoding.specs.Decode.{frame_encodes}
+use Rattle.entries.proofs.EntryLaws.{frame_bytes_lem}
 use Rattle.entries.proofs.frame_whole.Statement.{statement}
 use Rattle.entries.proofs.frame_whole.Tie as tie
 
@@ -14,7 +14,7 @@ returns-2 : tie.Need-returns-2
 returns-2 c = λ l j. absurd (let z : ⊥ = omega arith in z)
 
 returns-3 : tie.Need-returns-3
-returns-3 c = λ l j. c.frame-encodes.ensures ∙ ap frameEncodes (frame-bytes _ _ j)
+returns-3 c = λ l j. c.frame-encodes.ensures ∙ ap frame_encodes (frame_bytes_lem _ _ j)
 
 pub frame-whole-spec : {M : Type 1} → statement M
 frame-whole-spec =

@@ -4,10 +4,10 @@ use native.Mathlib.Omega.{arith}
 use mathlib.Core.Path.{◌≡◌, refl, ap, ◌∙◌}
 use borrow.Author.Rules.{rules}
 use Rattle.encoding.specs.Bytes.{number_of, part}
-use Rattle.encoding.proofs.NumberLaws.{number-below}
+use Rattle.encoding.proofs.NumberLaws.{number_below}
 use Rattle.encoding.proofs.FieldLaws.{sized, part_bytes}
-use Rattle.fields.proofs.Within.{lent-part}
-use Rattle.entries.proofs.EntryLaws.{hold-read}
+use Rattle.fields.proofs.Within.{lent_part}
+use Rattle.entries.proofs.EntryLaws.{hold_read}
 use Rattle.entries.proofs.hold_in.Statement.{statement}
 use Rattle.entries.proofs.hold_in.Tie as tie
 
@@ -24,14 +24,14 @@ cast-phase c =
     let b = start.args.bytes.now in
     let at = 16 + 8 * start.args.k in
     let known = part_bytes b at 2 (λ i. omega (arith, c.before.before.before.before.shared-slice-known.given i)) in
-    let n : c.number.result ≡ number_of (part b at 2) = c.number.ensures ∙ ap number_of (lent-part at 2 b) in
-    omega (arith, n, number-below 2 (part b at 2) known (rw (sized b at 2 2 refl (omega arith)) (omega arith)))
+    let n : c.number.result ≡ number_of (part b at 2) = c.number.ensures ∙ ap number_of (lent_part at 2 b) in
+    omega (arith, n, number_below 2 (part b at 2) known (rw (sized b at 2 2 refl (omega arith)) (omega arith)))
 
 returns-3 : tie.Need-returns-3
 returns-3 c =
     λ l j t.
     let start = c.before.before.before.before.before.before.before.before in
-    rw c.before.registration-of.ensures (hold-read start.args.bytes.now start.args.k _ j c.before.before.before.number.ensures t)
+    rw c.before.registration-of.ensures (hold_read start.args.bytes.now start.args.k _ j c.before.before.before.number.ensures t)
 
 pub hold-in-spec : {M : Type 1} → statement M
 hold-in-spec =

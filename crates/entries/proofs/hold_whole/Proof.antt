@@ -2,8 +2,8 @@
 use native.Mathlib.Omega.{arith}
 use mathlib.Core.Path.{ap, ◌∙◌}
 use borrow.Author.Rules.{rules}
-use Rattle.encoding.specs.Decode.{holdEncodes}
-use Rattle.entries.proofs.EntryLaws.{hold-bytes}
+use Rattle.encoding.specs.Decode.{hold_encodes}
+use Rattle.entries.proofs.EntryLaws.{hold_bytes_lem}
 use Rattle.entries.proofs.hold_whole.Statement.{statement}
 use Rattle.entries.proofs.hold_whole.Tie as tie
 
@@ -14,7 +14,7 @@ returns-2 : tie.Need-returns-2
 returns-2 c = λ l j. absurd (let z : ⊥ = omega arith in z)
 
 returns-3 : tie.Need-returns-3
-returns-3 c = λ l j. c.hold-encodes.ensures ∙ ap holdEncodes (hold-bytes _ _ j)
+returns-3 c = λ l j. c.hold-encodes.ensures ∙ ap hold_encodes (hold_bytes_lem _ _ j)
 
 pub hold-whole-spec : {M : Type 1} → statement M
 hold-whole-spec =

@@ -1,7 +1,7 @@
 -- Its first four bytes, then its last four.
 use native.Mathlib.Omega.{arith}
 use borrow.Author.Rules.{rules}
-use Rattle.entries.proofs.EntryLaws.{first-not, first-zero}
+use Rattle.entries.proofs.EntryLaws.{first_not, first_zero}
 use Rattle.entries.proofs.hold_zero.Statement.{statement}
 use Rattle.entries.proofs.hold_zero.Tie as tie
 
@@ -12,10 +12,10 @@ returns-2 : tie.Need-returns-2
 returns-2 c = λ l j. absurd (let z : ⊥ = omega arith in z)
 
 returns-3 : tie.Need-returns-3
-returns-3 c = λ l j. first-zero _ _ j c.before.before.before.number.ensures c.number2.ensures c.before.before.if3.true
+returns-3 c = λ l j. first_zero _ _ j c.before.before.before.number.ensures c.number2.ensures c.before.before.if3.true
 
 returns-4 : tie.Need-returns-4
-returns-4 c = λ l j. first-not _ _ j c.before.number.ensures c.if3.false
+returns-4 c = λ l j. first_not _ _ j c.before.number.ensures c.if3.false
 
 pub hold-zero-spec : {M : Type 1} → statement M
 hold-zero-spec =

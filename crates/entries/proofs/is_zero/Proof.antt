@@ -6,13 +6,13 @@ use mathlib.Core.Path.{◌≡◌, refl, ◌∙◌}
 use lib.ListN.{length, drop}
 use lib.Dec.{eqb}
 use borrow.Author.Rules.{rules}
-use Rattle.encoding.specs.Bytes.{allZero}
+use Rattle.encoding.specs.Bytes.{all_zero}
 use Rattle.entries.proofs.ZeroLaws.{raised, kept, turned, ended}
 use Rattle.entries.proofs.is_zero.Statement.{statement}
 use Rattle.entries.proofs.is_zero.Tie as tie
 
 abbrev invariant-loop : tie.invariant-loop
-invariant-loop bytes most₀ i₀ most i = (i ≤ length bytes) × (eqb most 0 && allZero (drop i bytes) ≡ allZero bytes)
+invariant-loop bytes most₀ i₀ most i = (i ≤ length bytes) × (eqb most 0 && all_zero (drop i bytes) ≡ all_zero bytes)
 
 abbrev decreases-loop : tie.decreases-loop
 decreases-loop bytes most₀ i₀ most i = length bytes - i
@@ -24,13 +24,13 @@ loop-again : tie.Need-loop-preserved invariant-loop decreases-loop
 loop-again c =
     let l = c.before.before.before.loop in
     let b = c.before.before.before.before.args.bytes.now in
-    (omega arith, raised l.most _ (allZero (drop (l.i + 1) b)) c.if1.true ∙ turned b l.i l.most c.before.before.loop-test.true ∙ l.invariant.1)
+    (omega arith, raised l.most _ (all_zero (drop (l.i + 1) b)) c.if1.true ∙ turned b l.i l.most c.before.before.loop-test.true ∙ l.invariant.1)
 
 loop-again-2 : tie.Need-loop-preserved-2 invariant-loop decreases-loop
 loop-again-2 c =
     let l = c.before.before.before.loop in
     let b = c.before.before.before.before.args.bytes.now in
-    (omega arith, kept l.most _ (allZero (drop (l.i + 1) b)) c.if1.false ∙ turned b l.i l.most c.before.before.loop-test.true ∙ l.invariant.1)
+    (omega arith, kept l.most _ (all_zero (drop (l.i + 1) b)) c.if1.false ∙ turned b l.i l.most c.before.before.loop-test.true ∙ l.invariant.1)
 
 returns : tie.Need-returns invariant-loop decreases-loop
 returns c = ended c.before.before.args.bytes.now c.before.loop.i c.before.loop.most c.loop-test.false ∙ c.before.loop.invariant.1

@@ -1,6 +1,6 @@
 -- Its two bytes.
 use borrow.Author.Rules.{rules}
-use Rattle.encoding.specs.Decode.{activityAt}
+use Rattle.encoding.specs.Decode.{activity_at}
 use Rattle.entries.proofs.status_in.Statement.{statement}
 use Rattle.entries.proofs.status_in.Tie as tie
 
@@ -8,7 +8,7 @@ returns : tie.Need-returns
 returns c = λ l. absurd (c.if1.true l)
 
 returns-2 : tie.Need-returns-2
-unfolding activityAt
+unfolding activity_at
 returns-2 c = λ l. c.status-of.ensures
 
 pub status-in-spec : {M : Type 1} → statement M

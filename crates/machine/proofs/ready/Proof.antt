@@ -3,7 +3,7 @@ use Prim.Native.Nat.{ℕ}
 use lib.ListN.{replicate, length-replicate}
 use Rattle.fits.proofs.Fitting.{Fitting}
 use Rattle.machine.proofs.Typed.{fitting}
-use Rattle.machine.proofs.Values.{own-bytes, ready-is}
+use Rattle.machine.proofs.Values.{own_bytes, ready_is}
 use borrow.Author.Rules.{rules}
 use Rattle.machine.proofs.ready.Statement.{statement}
 use Rattle.machine.proofs.ready.Tie as tie
@@ -19,7 +19,7 @@ returns : tie.Need-returns
 returns c =
     let e = c.before.before.before.before in
     let a = (start e).args in
-    ready-is a.table.now (fits e) (own-bytes (fits e) (replicate 13776 0) (length-replicate {A = ℕ} 13776 0) e.encode.ensures) c.ready.ensures.0 c.ready.ensures.1
+    ready_is a.table.now (fits e) (own_bytes (fits e) (replicate 13776 0) (length-replicate {A = ℕ} 13776 0) e.encode.ensures) c.ready.ensures.0 c.ready.ensures.1
 
 pub ready-spec : {M : Type 1} → statement M
 ready-spec =

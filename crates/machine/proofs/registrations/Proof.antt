@@ -3,7 +3,7 @@ use Prim.Native.Nat.{ℕ}
 use lib.ListN.{replicate, length-replicate}
 use Rattle.fits.proofs.Fitting.{Fitting}
 use Rattle.machine.proofs.Typed.{fitting}
-use Rattle.machine.proofs.Values.{own-bytes, sheet-number, sheet-unfit, sheet-fit}
+use Rattle.machine.proofs.Values.{own_bytes, sheet_number_lem, sheet_unfit, sheet_fit}
 use borrow.Author.Rules.{rules}
 use Rattle.machine.proofs.registrations.Statement.{statement}
 use Rattle.machine.proofs.registrations.Tie as tie
@@ -20,8 +20,8 @@ returns c =
     let d = c.before.before in
     let e = d.before.before.before in
     let a = (start e).args in
-    let q = own-bytes (fits e) (replicate 13776 0) (length-replicate {A = ℕ} 13776 0) e.encode.ensures in
-    (sheet-unfit a.table.now (fits e) q d.check-state.ensures.0 c.if1.true, sheet-number a.table.now (fits e) q d.check-state.ensures.0)
+    let q = own_bytes (fits e) (replicate 13776 0) (length-replicate {A = ℕ} 13776 0) e.encode.ensures in
+    (sheet_unfit a.table.now (fits e) q d.check-state.ensures.0 c.if1.true, sheet_number_lem a.table.now (fits e) q d.check-state.ensures.0)
 
 returns-2 : tie.Need-returns-2
 returns-2 c =
@@ -29,8 +29,8 @@ returns-2 c =
     let d = l.before.before in
     let e = d.before.before.before in
     let a = (start e).args in
-    let q = own-bytes (fits e) (replicate 13776 0) (length-replicate {A = ℕ} 13776 0) e.encode.ensures in
-    (sheet-fit a.table.now (fits e) q d.check-state.ensures.0 l.if1.false c.sheet-of.ensures, sheet-number a.table.now (fits e) q d.check-state.ensures.0)
+    let q = own_bytes (fits e) (replicate 13776 0) (length-replicate {A = ℕ} 13776 0) e.encode.ensures in
+    (sheet_fit a.table.now (fits e) q d.check-state.ensures.0 l.if1.false c.sheet-of.ensures, sheet_number_lem a.table.now (fits e) q d.check-state.ensures.0)
 
 pub registrations-spec : {M : Type 1} → statement M
 registrations-spec =

@@ -6,14 +6,14 @@ use mathlib.Core.Path.{◌≡◌, ap, ◌∙◌}
 use mathlib.Core.Bool.{true}
 use lib.ListN.{length, replicate, length-replicate}
 use Rattle.program.proofs.Basic.{Bytes}
-use Rattle.encoding.specs.Encode.{encodeState}
-use Rattle.encoding.specs.Decode.{fieldsEncode}
-use Rattle.encoding.proofs.Passed.{state-passes}
+use Rattle.encoding.specs.Encode.{encode_state}
+use Rattle.encoding.specs.Decode.{fields_encode}
+use Rattle.encoding.proofs.Passed.{state_passes}
 use Rattle.fits.proofs.Fitting.{Fitting}
 use Rattle.machine.specs.After.{entry}
 use Rattle.machine.proofs.Kept.{made}
 use Rattle.machine.proofs.Typed.{fitting}
-use Rattle.machine.proofs.Values.{own-bytes, after-passes, told}
+use Rattle.machine.proofs.Values.{own_bytes, after_passes, told}
 use borrow.Author.Rules.{rules}
 use Rattle.machine.proofs.step.Statement.{statement}
 use Rattle.machine.proofs.step.Tie as tie
@@ -31,8 +31,8 @@ fits c = fitting (start c).args.s _ (start c).well-formed.1.0
 table-bytes : (c : tie.After-encode) → Bytes (start c).args.table.now
 table-bytes c i = omega (arith, (entries c).before.before.before.shared-slice-known.given i)
 
-own : (c : tie.After-encode) → c.encode.new.1.0 ≡ encodeState (start c).args.s
-own c = own-bytes (fits c) (replicate 13776 0) (length-replicate {A = ℕ} 13776 0) c.encode.ensures
+own : (c : tie.After-encode) → c.encode.new.1.0 ≡ encode_state (start c).args.s
+own c = own_bytes (fits c) (replicate 13776 0) (length-replicate {A = ℕ} 13776 0) c.encode.ensures
 
 -- Where the step was called, and what its bytes are then.
 abbrev encoded : tie.After-step → tie.After-encode
@@ -41,11 +41,11 @@ encoded c = c.before.before.before
 abbrev left : tie.After-step → List ℕ
 left c = c.step.new.1.0
 
-passes : (c : tie.After-step) → (length (left c) ≡ 13776) × (fieldsEncode (left c) ≡ true)
+passes : (c : tie.After-step) → (length (left c) ≡ 13776) × (fields_encode (left c) ≡ true)
 passes c =
     let e = encoded c in
     let a = (start e).args in
-    after-passes a.table.now (fits e) a.activity (own e) c.step.ensures.0 c.step.ensures.1 (table-bytes e)
+    after_passes a.table.now (fits e) a.activity (own e) c.step.ensures.0 c.step.ensures.1 (table-bytes e)
 
 -- The places behind it, each by the next one.
 abbrev called : tie.After-status-at → tie.After-step
@@ -80,7 +80,7 @@ activity-in-requires-2 c κs =
 cast-steps : tie.Need-overflow-cast-steps
 cast-steps c =
     let d = called (stood (stored (spawned c))) in
-    omega (arith, c.number.ensures, (state-passes (left d) (passes d).1).steps)
+    omega (arith, c.number.ensures, (state_passes (left d) (passes d).1).steps)
 
 returns : tie.Need-returns
 returns c =

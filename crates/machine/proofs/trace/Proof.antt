@@ -3,7 +3,7 @@ use Prim.Native.Nat.{ℕ}
 use native.Mathlib.Omega.{arith}
 use lib.ListN.{length, replicate, length-replicate}
 use mathlib.Core.Path.{◌≡◌}
-use Rattle.machine.proofs.Runs.{short, refused, done, told-by}
+use Rattle.machine.proofs.Runs.{short, refused, done, told_by}
 use borrow.Author.Rules.{rules}
 use Rattle.machine.proofs.trace.Statement.{statement}
 use Rattle.machine.proofs.trace.Tie as tie
@@ -23,7 +23,7 @@ returns c =
     let e = r.trace.ensures in
     record {
       runs = short a.table.now a.order.now a.answers.now (replicate 13776 0) zeros e.0 e.1.0 e.1.1.1 c.before.if1.true c.zero-state.ensures;
-      numbers = told-by a.table.now a.order.now a.answers.now a.counts.now (replicate 13776 0) zeros e.1.1.0;
+      numbers = told_by a.table.now a.order.now a.answers.now a.counts.now (replicate 13776 0) zeros e.1.1.0;
     }
 
 returns-2 : tie.Need-returns-2
@@ -36,7 +36,7 @@ returns-2 c =
       runs =
           refused a.table.now a.order.now a.answers.now (replicate 13776 0) zeros e.0 e.1.0 e.1.1.1 l.if1.false c.before.if2.true
           c.zero-state2.ensures;
-      numbers = told-by a.table.now a.order.now a.answers.now a.counts.now (replicate 13776 0) zeros e.1.1.0;
+      numbers = told_by a.table.now a.order.now a.answers.now a.counts.now (replicate 13776 0) zeros e.1.1.0;
     }
 
 returns-3 : tie.Need-returns-3
@@ -49,7 +49,7 @@ returns-3 c =
       runs =
           done a.table.now a.order.now a.answers.now (replicate 13776 0) zeros e.0 e.1.0 e.1.1.1
           (λ i. omega (arith, r.before.before.before.before.before.before.before.shared-slice-known.given i)) l.if2.false c.before.decode.ensures;
-      numbers = told-by a.table.now a.order.now a.answers.now a.counts.now (replicate 13776 0) zeros e.1.1.0;
+      numbers = told_by a.table.now a.order.now a.answers.now a.counts.now (replicate 13776 0) zeros e.1.1.0;
     }
 
 pub trace-spec : {M : Type 1} → statement M

@@ -1,5 +1,5 @@
 -- One more of 16 bits.
-use Rattle.moves.proofs.Going.{count-on}
+use Rattle.moves.proofs.Going.{count_on}
 use Rattle.std.proofs.Common.{rules}
 use Rattle.moves.proofs.counted.Statement.{statement}
 use Rattle.moves.proofs.counted.Tie as tie
@@ -8,7 +8,7 @@ returns : tie.Need-returns
 returns c =
     let w = c.before.before in
     let x = w.before in
-    count-on x.before.before.steps_of.ensures x.wrapping-add-u16.ensures w.put-steps.ensures
+    count_on x.before.before.steps_of.ensures x.wrapping-add-u16.ensures w.put-steps.ensures
 
 pub counted_spec : {M : Type 1} → statement M
 counted_spec =

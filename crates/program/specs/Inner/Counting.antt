@@ -5,14 +5,14 @@ use Rattle.program.specs.Count.{tally}
 use Rattle.program.specs.Inner.Coding.{weight}
 use Rattle.program.specs.Scan.{scan, layout_of}
 use Rattle.program.specs.declared.command.Command.{Command}
-use Rattle.program.specs.Table.{workLimit}
+use Rattle.program.specs.Table.{work_limit}
 
 -- The counts are saturated one above the greatest limit.
 abbrev pub cap : ℕ → ℕ
-cap x = min x (workLimit + 1)
+cap x = min x (work_limit + 1)
 
 unfoldable pub Small : List ℕ → Type 0
-Small sums = (k : ℕ) → k < 4 → get_or sums k 0 ≤ workLimit + 1
+Small sums = (k : ℕ) → k < 4 → get_or sums k 0 ≤ work_limit + 1
 
 -- The sums with a command more, which runs a body of these counts so many times.
 unfoldable pub Added : List ℕ → Command → ℕ → List ℕ → List ℕ → Type 0
@@ -29,7 +29,7 @@ Noted t notes = (i : ℕ) → (get_or (get_or notes i []) 0 0 ≡ 0) ⊎ Counts 
 -- What the count of a body is asked for: an accepted table with the starts of its bodies, and the slice from the body's first command.
 pub record Counting (t code starts : List ℕ) (body : ℕ) (notes : List (List ℕ)) : Type 0 where
   pub accepted : scan t ≡ 0
-  pub starts-are : starts ≡ (layout_of t).starts
+  pub starts_are : starts ≡ (layout_of t).starts
   pub one_of : body < get_or t 0 0
   pub code_is : code ≡ drop (get_or starts body 0) t
   pub noted : Noted t notes
@@ -41,5 +41,5 @@ pub record Filled (t : List ℕ) (body : ℕ) (notes : List (List ℕ)) : Type 0
   pub counts : Counts t body (get_or notes body [])
 
 -- Numbers 9 to 12 by the four counts of body 0, main not yet among them; 0 where none is met.
-unfoldable pub overCounts : List ℕ → ℕ
-overCounts r = cond (ltb 63 (get_or r 1 0)) 9 (cond (ltb 16 (get_or r 2 0)) 10 (cond (ltb 16 (get_or r 3 0)) 11 (cond (ltb workLimit (get_or r 0 0)) 12 0)))
+unfoldable pub over_counts : List ℕ → ℕ
+over_counts r = cond (ltb 63 (get_or r 1 0)) 9 (cond (ltb 16 (get_or r 2 0)) 10 (cond (ltb 16 (get_or r 3 0)) 11 (cond (ltb work_limit (get_or r 0 0)) 12 0)))

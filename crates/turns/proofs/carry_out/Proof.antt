@@ -1,7 +1,7 @@
 -- Each arm is its command's function.
 use mathlib.Core.Path.{refl}
 use Rattle.rules.specs.Waiting.{waits_for}
-use Rattle.turns.proofs.Carrying.{matched, matched-simply, matched-ranging, plain, plain-simply, plain-ranging}
+use Rattle.turns.proofs.Carrying.{matched, matched_simply, matched_ranging, plain, plain_simply, plain_ranging}
 use borrow.Author.Rules.{rules}
 use Rattle.turns.proofs.carry_out.Statement.{statement}
 use Rattle.turns.proofs.carry_out.Tie as tie
@@ -10,19 +10,19 @@ returns : tie.Need-returns
 returns c = let f = c.before.before in matched f.before.before.enum_told.given.1 f.meet-end.ensures
 
 returns-2 : tie.Need-returns-2
-returns-2 c = let f = c.before.before in matched-simply f.before.before.enum-told2.given.1 f.meet-next.ensures
+returns-2 c = let f = c.before.before in matched_simply f.before.before.enum-told2.given.1 f.meet-next.ensures
 
 returns-3 : tie.Need-returns-3
 unfolding waits_for
-returns-3 c = let f = c.before.before.before in plain-ranging f.before.before.before.command.given.1 (λ p s a x. refl) c.alone.ensures f.clock.ensures
+returns-3 c = let f = c.before.before.before in plain_ranging f.before.before.before.command.given.1 (λ p s a x. refl) c.alone.ensures f.clock.ensures
 
 returns-4 : tie.Need-returns-4
 unfolding waits_for
-returns-4 c = let f = c.before.before.before in plain-ranging f.before.before.before.command2.given.1 (λ p s a x. refl) c.alone2.ensures f.resume.ensures
+returns-4 c = let f = c.before.before.before in plain_ranging f.before.before.before.command2.given.1 (λ p s a x. refl) c.alone2.ensures f.resume.ensures
 
 returns-5 : tie.Need-returns-5
 unfolding waits_for
-returns-5 c = let f = c.before.before.before in plain-ranging f.before.before.before.command3.given.1 (λ p s a x. refl) c.alone3.ensures f.drop.ensures
+returns-5 c = let f = c.before.before.before in plain_ranging f.before.before.before.command3.given.1 (λ p s a x. refl) c.alone3.ensures f.drop.ensures
 
 returns-6 : tie.Need-returns-6
 unfolding waits_for
@@ -30,41 +30,41 @@ returns-6 c = let f = c.before.before.before in plain f.before.before.before.com
 
 returns-7 : tie.Need-returns-7
 unfolding waits_for
-returns-7 c = let f = c.before.before.before in plain-simply f.before.before.before.command5.given.1 (λ p s a x. refl) c.alone5.ensures f.finish.ensures
+returns-7 c = let f = c.before.before.before in plain_simply f.before.before.before.command5.given.1 (λ p s a x. refl) c.alone5.ensures f.finish.ensures
 
 returns-8 : tie.Need-returns-8
 unfolding waits_for
-returns-8 c = let f = c.before.before.before in plain-simply f.before.before.before.command6.given.1 (λ p s a x. refl) c.alone6.ensures f.repeat.ensures
+returns-8 c = let f = c.before.before.before in plain_simply f.before.before.before.command6.given.1 (λ p s a x. refl) c.alone6.ensures f.repeat.ensures
 
 returns-9 : tie.Need-returns-9
 unfolding waits_for
-returns-9 c = let f = c.before.before.before in plain-ranging f.before.before.before.command7.given.1 (λ p s a x. refl) c.alone7.ensures (λ h. f.acc.ensures h.0)
+returns-9 c = let f = c.before.before.before in plain_ranging f.before.before.before.command7.given.1 (λ p s a x. refl) c.alone7.ensures (λ h. f.acc.ensures h.0)
 
 returns-10 : tie.Need-returns-10
 unfolding waits_for
-returns-10 c = let f = c.before.before.before in plain-ranging f.before.before.before.command8.given.1 (λ p s a x. refl) c.alone8.ensures f.offer.ensures
+returns-10 c = let f = c.before.before.before in plain_ranging f.before.before.before.command8.given.1 (λ p s a x. refl) c.alone8.ensures f.offer.ensures
 
 returns-11 : tie.Need-returns-11
-returns-11 c = let f = c.before.before in matched-ranging f.before.before.before.command9.given.1 f.meet-read.ensures
+returns-11 c = let f = c.before.before in matched_ranging f.before.before.before.command9.given.1 f.meet-read.ensures
 
 returns-12 : tie.Need-returns-12
-returns-12 c = let f = c.before.before in matched-ranging f.before.before.before.command10.given.1 f.meet-reset.ensures
+returns-12 c = let f = c.before.before in matched_ranging f.before.before.before.command10.given.1 f.meet-reset.ensures
 
 returns-13 : tie.Need-returns-13
 unfolding waits_for
-returns-13 c = let f = c.before.before.before in plain-simply f.before.before.before.command11.given.1 (λ p s a x. refl) c.alone9.ensures f.put.ensures
+returns-13 c = let f = c.before.before.before in plain_simply f.before.before.before.command11.given.1 (λ p s a x. refl) c.alone9.ensures f.put.ensures
 
 returns-14 : tie.Need-returns-14
 unfolding waits_for
-returns-14 c = let f = c.before.before.before in plain-ranging f.before.before.before.command12.given.1 (λ p s a x. refl) c.alone10.ensures f.fetch.ensures
+returns-14 c = let f = c.before.before.before in plain_ranging f.before.before.before.command12.given.1 (λ p s a x. refl) c.alone10.ensures f.fetch.ensures
 
 returns-15 : tie.Need-returns-15
 unfolding waits_for
-returns-15 c = let f = c.before.before.before in plain-ranging f.before.before.before.command13.given.1 (λ p s a x. refl) c.alone11.ensures f.store.ensures
+returns-15 c = let f = c.before.before.before in plain_ranging f.before.before.before.command13.given.1 (λ p s a x. refl) c.alone11.ensures f.store.ensures
 
 returns-16 : tie.Need-returns-16
 unfolding waits_for
-returns-16 c = let f = c.before.before.before in plain-ranging f.before.before.before.command14.given.1 (λ p s a x. refl) c.alone12.ensures f.add.ensures
+returns-16 c = let f = c.before.before.before in plain_ranging f.before.before.before.command14.given.1 (λ p s a x. refl) c.alone12.ensures f.add.ensures
 
 returns-17 : tie.Need-returns-17
 unfolding waits_for
@@ -72,7 +72,7 @@ returns-17 c = let f = c.before.before.before in plain f.before.before.before.co
 
 returns-18 : tie.Need-returns-18
 unfolding waits_for
-returns-18 c = let f = c.before.before.before in plain-simply f.before.before.before.command16.given.1 (λ p s a x. refl) c.alone14.ensures f.choose.ensures
+returns-18 c = let f = c.before.before.before in plain_simply f.before.before.before.command16.given.1 (λ p s a x. refl) c.alone14.ensures f.choose.ensures
 
 pub carry-out-spec : {M : Type 1} → statement M
 carry-out-spec =

@@ -1,7 +1,7 @@
 -- Numbers 14 and 15 in their order, then the turn at the command.
 use native.Mathlib.Omega.{arith}
 use mathlib.Core.Path.{sym, ◌∙◌}
-use Rattle.turns.proofs.Looking.{not-spawned, has_ended, some, turned, told}
+use Rattle.turns.proofs.Looking.{not_spawned, has_ended, some, turned, told}
 use Rattle.turns.proofs.Turning.{refused}
 use borrow.Author.Rules.{rules}
 use Rattle.turns.proofs.turn.Statement.{statement}
@@ -10,7 +10,7 @@ use Rattle.turns.proofs.turn.Tie as tie
 returns : tie.Need-returns
 returns c =
     let n = c.alone.ensures in
-    refused (record { sees = λ k s l w. not-spawned l c.before.before.activities-of.ensures c.before.if1.true n }) (λ z. let e = n.0 in omega arith)
+    refused (record { sees = λ k s l w. not_spawned l c.before.before.activities-of.ensures c.before.if1.true n }) (λ z. let e = n.0 in omega arith)
 
 returns-2 : tie.Need-returns-2
 returns-2 c =

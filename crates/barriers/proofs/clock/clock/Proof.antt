@@ -1,7 +1,7 @@
 -- F4, number 17 twice, and the clock.
 use mathlib.Core.Path.{sym, ◌∙◌}
 use Rattle.moves.proofs.Standings.{over, spent}
-use Rattle.barriers.proofs.Clocking.{held-fault, full, clocked}
+use Rattle.barriers.proofs.Clocking.{held_fault, full, clocked}
 use borrow.Author.Rules.{rules}
 use Rattle.barriers.proofs.clock.clock.Statement.{statement}
 use Rattle.barriers.proofs.clock.clock.Tie as tie
@@ -11,7 +11,7 @@ returns c = λ h.
     let f = c.before.before in
     let t = f.before.before in
     let u = t.before in
-    record { turns = λ p s l w. f.fail.ensures.fails p s _ l w (held-fault l w (u.before.hold_at.ensures h) u.is_held_lem.ensures t.if1.true) }
+    record { turns = λ p s l w. f.fail.ensures.fails p s _ l w (held_fault l w (u.before.hold_at.ensures h) u.is_held_lem.ensures t.if1.true) }
 
 returns-2 : tie.Need-returns-2
 returns-2 c = λ h. record { turns = λ p s l w. over w l (spent w (sym c.if2.true ∙ c.before.is-spent.ensures.reads s l)) }

@@ -1,8 +1,8 @@
 -- Number 17, passing and arrival.
 use mathlib.Core.Path.{sym, ap, ◌∙◌}
-use Rattle.rules.specs.State.{isAtBarrier}
+use Rattle.rules.specs.State.{is_at_barrier}
 use Rattle.moves.proofs.Standings.{few, over, spent}
-use Rattle.barriers.proofs.Nexts.{last-phase, gone, arrived}
+use Rattle.barriers.proofs.Nexts.{last_phase, gone, arrived}
 use borrow.Author.Rules.{rules}
 use Rattle.barriers.proofs.next.next.Statement.{statement}
 use Rattle.barriers.proofs.next.next.Tie as tie
@@ -21,8 +21,8 @@ returns-2 c =
       turns =
           λ p s l w.
           let left = sym e.if1.false ∙ e.before.is-spent.ensures.reads s l in
-          let at = sym (ap isAtBarrier (u.status-at.ensures.reads s l (few w))) ∙ sym a.is-at-barrier.ensures ∙ t.if2.true in
-          over w l (last-phase l w left at (sym c.if3.true ∙ n.some-last.ensures.reads s l (few w)));
+          let at = sym (ap is_at_barrier (u.status-at.ensures.reads s l (few w))) ∙ sym a.is-at-barrier.ensures ∙ t.if2.true in
+          over w l (last_phase l w left at (sym c.if3.true ∙ n.some-last.ensures.reads s l (few w)));
     }
 
 returns-3 : tie.Need-returns-3
@@ -40,7 +40,7 @@ returns-3 c =
       turns =
           λ p s l w.
           let left = sym e.if1.false ∙ e.before.is-spent.ensures.reads s l in
-          let at = sym (ap isAtBarrier (u.status-at.ensures.reads s l (few w))) ∙ sym a.is-at-barrier.ensures ∙ t.if2.true in
+          let at = sym (ap is_at_barrier (u.status-at.ensures.reads s l (few w))) ∙ sym a.is-at-barrier.ensures ∙ t.if2.true in
           gone l w left at (sym o.if3.false ∙ n.some-last.ensures.reads s l (few w)) h.pass_all.ensures m.put-status.ensures g.go_on.ensures;
     }
 
@@ -57,7 +57,7 @@ returns-4 c =
       turns =
           λ p s l w.
           let left = sym e.if1.false ∙ e.before.is-spent.ensures.reads s l in
-          let at = sym (ap isAtBarrier (u.status-at.ensures.reads s l (few w))) ∙ sym a.is-at-barrier.ensures ∙ t.if2.false in
+          let at = sym (ap is_at_barrier (u.status-at.ensures.reads s l (few w))) ∙ sym a.is-at-barrier.ensures ∙ t.if2.false in
           arrived l w left at h.quiesce-all.ensures m.put-status2.ensures g.counted.ensures;
     }
 

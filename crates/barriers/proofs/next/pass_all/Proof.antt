@@ -4,8 +4,8 @@ use mathlib.Core.Path.{◌≡◌, refl, ◌∙◌}
 use lib.ListN.{length}
 use Rattle.rules.specs.Clocks.{pass}
 use Rattle.barriers.specs.Mapped.{Passable}
-use Rattle.barriers.proofs.Mapping.{MapsTo, map-none, map_more, map-skip, map-done}
-use Rattle.barriers.proofs.Nexts.{pass-free, pass_fits}
+use Rattle.barriers.proofs.Mapping.{MapsTo, map_none, map_more, map_skip, map_done}
+use Rattle.barriers.proofs.Nexts.{pass_free, pass_fits}
 use borrow.Author.Rules.{rules}
 use Rattle.barriers.proofs.next.pass_all.Statement.{statement}
 use Rattle.barriers.proofs.next.pass_all.Tie as tie
@@ -17,7 +17,7 @@ abbrev decreases-loop : tie.decreases-loop
 decreases-loop state₀ i k₀ state k = 8 - k
 
 loop-holds : tie.Need-loop-init invariant-loop decreases-loop
-loop-holds c = (refl, map-none)
+loop-holds c = (refl, map_none)
 
 loop-again : tie.Need-loop-preserved invariant-loop decreases-loop
 loop-again c =
@@ -33,13 +33,13 @@ loop-again-2 c =
     let g = c.before.before in
     let q = g.before.before in
     let h = q.loop-test.true in
-    (q.before.loop.invariant.0, map-skip q.before.loop.invariant.1 h (g.hold_at.ensures h) (pass-free _ c.before.is_held_lem.ensures c.if1.false))
+    (q.before.loop.invariant.0, map_skip q.before.loop.invariant.1 h (g.hold_at.ensures h) (pass_free _ c.before.is_held_lem.ensures c.if1.false))
 
 same_length : tie.Need-same-length invariant-loop decreases-loop
 same_length c = c.before.loop.invariant.0
 
 returns : tie.Need-returns invariant-loop decreases-loop
-returns c = map-done c.before.loop.invariant.1 c.loop-test.false
+returns c = map_done c.before.loop.invariant.1 c.loop-test.false
 
 pub pass-all-spec : {M : Type 1} → statement M
 pass-all-spec =

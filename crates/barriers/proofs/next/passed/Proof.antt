@@ -1,7 +1,7 @@
 -- By the registration, and by the phase.
 use native.Mathlib.Omega.{arith}
 use mathlib.Core.Path.{sym, ◌∙◌}
-use Rattle.barriers.proofs.Nexts.{pass-free}
+use Rattle.barriers.proofs.Nexts.{pass_free}
 use borrow.Author.Rules.{rules}
 use Rattle.barriers.proofs.next.passed.Statement.{statement}
 use Rattle.barriers.proofs.next.passed.Tie as tie
@@ -13,7 +13,7 @@ returns-2 : tie.Need-returns-2
 returns-2 c = λ h. rw (c.revived.ensures, sym c.before.before.before.before.before.is_held_lem.ensures ∙ c.before.before.before.before.if1.true)
 
 returns-3 : tie.Need-returns-3
-returns-3 c = λ h. pass-free _ c.before.is_held_lem.ensures c.if1.false
+returns-3 c = λ h. pass_free _ c.before.is_held_lem.ensures c.if1.false
 
 pub passed-spec : {M : Type 1} → statement M
 passed-spec =

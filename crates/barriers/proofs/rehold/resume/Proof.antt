@@ -1,7 +1,7 @@
 -- Number 17, the clock, and F1.
 use mathlib.Core.Path.{sym, ◌∙◌}
 use Rattle.moves.proofs.Standings.{over, spent}
-use Rattle.barriers.proofs.Reholds.{resume-fault, resumed}
+use Rattle.barriers.proofs.Reholds.{resume_fault, resumed}
 use borrow.Author.Rules.{rules}
 use Rattle.barriers.proofs.rehold.resume.Statement.{statement}
 use Rattle.barriers.proofs.rehold.resume.Tie as tie
@@ -29,7 +29,7 @@ returns-3 c = λ h.
     let f = c.before.before in
     let t = f.before.before in
     let u = t.before in
-    record { turns = λ p s l w. f.fail.ensures.fails p s _ l w (resume-fault l w (u.before.hold_at.ensures h) u.is_held_lem.ensures t.if1.false) }
+    record { turns = λ p s l w. f.fail.ensures.fails p s _ l w (resume_fault l w (u.before.hold_at.ensures h) u.is_held_lem.ensures t.if1.false) }
 
 pub resume-spec : {M : Type 1} → statement M
 resume-spec =

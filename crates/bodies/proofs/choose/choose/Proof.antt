@@ -1,7 +1,7 @@
 -- Number 17, on, or the body.
 use mathlib.Core.Path.{sym, ◌∙◌}
 use Rattle.moves.proofs.Standings.{over, spent}
-use Rattle.bodies.proofs.Pushing.{choose-none, choose-some}
+use Rattle.bodies.proofs.Pushing.{choose_none, choose_some}
 use borrow.Author.Rules.{rules}
 use Rattle.bodies.proofs.choose.choose.Statement.{statement}
 use Rattle.bodies.proofs.choose.choose.Tie as tie
@@ -15,7 +15,7 @@ returns-2 c =
     let n = g.before.before in
     let m = n.before in
     let e = m.before.before in
-    record { turns = λ p s l w. choose-none l (sym e.if1.false ∙ e.before.is-spent.ensures.reads s l) w m.register-at.ensures n.if2.true g.go_on.ensures }
+    record { turns = λ p s l w. choose_none l (sym e.if1.false ∙ e.before.is-spent.ensures.reads s l) w m.register-at.ensures n.if2.true g.go_on.ensures }
 
 returns-3 : tie.Need-returns-3
 returns-3 c =
@@ -23,7 +23,7 @@ returns-3 c =
     let n = g.before.before in
     let m = n.before in
     let e = m.before.before in
-    record { turns = λ p s l w. choose-some l (sym e.if1.false ∙ e.before.is-spent.ensures.reads s l) w m.register-at.ensures n.if2.false g.push.ensures }
+    record { turns = λ p s l w. choose_some l (sym e.if1.false ∙ e.before.is-spent.ensures.reads s l) w m.register-at.ensures n.if2.false g.push.ensures }
 
 pub choose_spec : {M : Type 1} → statement M
 choose_spec =

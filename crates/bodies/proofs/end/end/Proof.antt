@@ -2,7 +2,7 @@
 use mathlib.Core.Path.{sym, ◌∙◌}
 use borrow.Author.Tests.{ne_eqb}
 use Rattle.moves.proofs.Standings.{over, spent}
-use Rattle.bodies.proofs.Ends.{passed_on, ended, reran, popped-out}
+use Rattle.bodies.proofs.Ends.{passed_on_lem, ended, reran, popped_out}
 use borrow.Author.Rules.{rules}
 use Rattle.bodies.proofs.end.end.Statement.{statement}
 use Rattle.bodies.proofs.end.end.Tie as tie
@@ -10,7 +10,7 @@ use Rattle.bodies.proofs.end.end.Tie as tie
 returns : tie.Need-returns
 returns c =
     let f = c.before.before in
-    record { turns = λ t k s l w q. f.fail.ensures.fails _ s _ l w (passed_on w (sym q ∙ f.before.before.if1.true)) }
+    record { turns = λ t k s l w q. f.fail.ensures.fails _ s _ l w (passed_on_lem w (sym q ∙ f.before.before.if1.true)) }
 
 returns-2 : tie.Need-returns-2
 returns-2 c = record { turns = λ t k s l w q. over w l (spent w (sym c.if2.true ∙ c.before.is-spent.ensures.reads s l)) }
@@ -56,7 +56,7 @@ returns-5 c =
     record {
       turns =
           λ t k s l w q.
-          popped-out t k l w (sym e.if2.false ∙ e.before.is-spent.ensures.reads s l) d.depth-at.ensures (sym q ∙ e.before.before.before.if1.false) o.if3.false f.frame_at.ensures
+          popped_out t k l w (sym e.if2.false ∙ e.before.is-spent.ensures.reads s l) d.depth-at.ensures (sym q ∙ e.before.before.before.if1.false) o.if3.false f.frame_at.ensures
           m.if4.false (rw y.if5.true) z.pop.ensures;
     }
 
@@ -72,7 +72,7 @@ returns-6 c =
     record {
       turns =
           λ t k s l w q.
-          popped-out t k l w (sym e.if2.false ∙ e.before.is-spent.ensures.reads s l) d.depth-at.ensures (sym q ∙ e.before.before.before.if1.false) o.if3.false f.frame_at.ensures
+          popped_out t k l w (sym e.if2.false ∙ e.before.is-spent.ensures.reads s l) d.depth-at.ensures (sym q ∙ e.before.before.before.if1.false) o.if3.false f.frame_at.ensures
           m.if4.false (rw (ne_eqb _ 0 y.if5.false)) z.pop2.ensures;
     }
 

@@ -1,7 +1,7 @@
 -- The frame, the depth, and on.
 use native.Mathlib.Omega.{arith}
 use mathlib.Core.Path.{refl}
-use Rattle.bodies.proofs.Ends.{pop-done}
+use Rattle.bodies.proofs.Ends.{pop_done}
 use borrow.Author.Rules.{rules}
 use Rattle.bodies.proofs.end.pop.Statement.{statement}
 use Rattle.bodies.proofs.end.pop.Tie as tie
@@ -14,7 +14,7 @@ returns-2 c =
     let k = c.before.before in
     let g = k.before.before.before.before in
     let f = g.before.before.before.before in
-    pop-done f.before.no-frame.ensures f.put-frame.ensures g.put-depth.ensures k.go_on.ensures
+    pop_done f.before.no-frame.ensures f.put-frame.ensures g.put-depth.ensures k.go_on.ensures
 
 pub pop_spec : {M : Type 1} → statement M
 pop_spec =

@@ -1,7 +1,7 @@
 -- Number 17, or the body.
 use mathlib.Core.Path.{sym, ◌∙◌}
 use Rattle.moves.proofs.Standings.{over, spent}
-use Rattle.bodies.proofs.Pushing.{finish-done}
+use Rattle.bodies.proofs.Pushing.{finish_done}
 use borrow.Author.Rules.{rules}
 use Rattle.bodies.proofs.finish.finish.Statement.{statement}
 use Rattle.bodies.proofs.finish.finish.Tie as tie
@@ -14,7 +14,7 @@ returns-2 c =
     let g = c.before.before in
     let n = g.before.before in
     let e = n.before.before in
-    record { turns = λ p s l w. finish-done l (sym e.if1.false ∙ e.before.is-spent.ensures.reads s l) w n.activities-of.ensures g.push.ensures }
+    record { turns = λ p s l w. finish_done l (sym e.if1.false ∙ e.before.is-spent.ensures.reads s l) w n.activities-of.ensures g.push.ensures }
 
 pub finish_spec : {M : Type 1} → statement M
 finish_spec =

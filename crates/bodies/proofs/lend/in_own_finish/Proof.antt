@@ -4,39 +4,39 @@ use native.Mathlib.Omega.{arith}
 use mathlib.Core.Bool.{false}
 use Rattle.program.specs.Bodies.{Program}
 use Rattle.rules.specs.declared.state.Activity.{Activity}
-use Rattle.rules.specs.Search.{someBelow}
+use Rattle.rules.specs.Search.{some_below}
 use Rattle.rules.specs.Tree.{finishes}
 use Rattle.bodies.specs.Lends.{ReadsIn}
-use Rattle.bodies.proofs.Lending.{own-start, own-found, own-passed, own-none}
+use Rattle.bodies.proofs.Lending.{own_start, own_found, own_passed, own_none}
 use borrow.Author.Rules.{rules}
 use Rattle.bodies.proofs.lend.in_own_finish.Statement.{statement}
 use Rattle.bodies.proofs.lend.in_own_finish.Tie as tie
 
 abbrev invariant-loop : tie.invariant-loop
-invariant-loop table starts state i depth d₀ d = (d ≤ depth - 1) × ReadsIn (λ (p : Program) (a : Activity). someBelow d (finishes p a)) table starts state i false
+invariant-loop table starts state i depth d₀ d = (d ≤ depth - 1) × ReadsIn (λ (p : Program) (a : Activity). some_below d (finishes p a)) table starts state i false
 
 abbrev decreases-loop : tie.decreases-loop
 decreases-loop table starts state i depth d₀ d = depth - d
 
 loop-holds : tie.Need-loop-init invariant-loop decreases-loop
-loop-holds c = (omega arith, own-start)
+loop-holds c = (omega arith, own_start)
 
 returns : tie.Need-returns invariant-loop decreases-loop
 returns c =
     let x = c.before in
     let f = x.before in
     let q = f.before in
-    own-found q.before.before.depth-at.ensures q.loop-test.true f.frame_at.ensures x.is-finish.ensures c.if1.true
+    own_found q.before.before.depth-at.ensures q.loop-test.true f.frame_at.ensures x.is-finish.ensures c.if1.true
 
 loop-again : tie.Need-loop-preserved invariant-loop decreases-loop
 loop-again c =
     let x = c.before in
     let f = x.before in
     let q = f.before in
-    (omega arith, own-passed q.before.before.depth-at.ensures q.loop-test.true f.frame_at.ensures x.is-finish.ensures q.before.loop.invariant.1 c.if1.false)
+    (omega arith, own_passed q.before.before.depth-at.ensures q.loop-test.true f.frame_at.ensures x.is-finish.ensures q.before.loop.invariant.1 c.if1.false)
 
 returns-2 : tie.Need-returns-2 invariant-loop decreases-loop
-returns-2 c = let q = c.before in own-none q.before.depth-at.ensures q.loop.invariant.0 c.loop-test.false q.loop.invariant.1
+returns-2 c = let q = c.before in own_none q.before.depth-at.ensures q.loop.invariant.0 c.loop-test.false q.loop.invariant.1
 
 pub in-own-finish-spec : {M : Type 1} → statement M
 in-own-finish-spec =

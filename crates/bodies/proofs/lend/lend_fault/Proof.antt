@@ -1,7 +1,7 @@
 -- One name after the other.
 use Prim.Native.Nat.{◌-◌}
 use mathlib.Core.Path.{sym, ◌∙◌}
-use Rattle.bodies.proofs.Lending.{LendsTo, lend-none, lend-skip, lend-free, lend-live, lend-quiet, lend-done}
+use Rattle.bodies.proofs.Lending.{LendsTo, lend_none, lend_skip, lend_free, lend_live, lend_quiet, lend_done}
 use borrow.Author.Rules.{rules}
 use Rattle.bodies.proofs.lend.lend_fault.Statement.{statement}
 use Rattle.bodies.proofs.lend.lend_fault.Tie as tie
@@ -13,7 +13,7 @@ abbrev decreases-loop : tie.decreases-loop
 decreases-loop state i m found₀ k₀ found k = 8 - k
 
 loop-holds : tie.Need-loop-init invariant-loop decreases-loop
-loop-holds c = lend-none
+loop-holds c = lend_none
 
 loop-again : tie.Need-loop-preserved invariant-loop decreases-loop
 loop-again c =
@@ -22,7 +22,7 @@ loop-again c =
     let e = h.before in
     let q = e.before.before in
     let k = q.loop-test.true in
-    lend-live q.before.loop.invariant k (sym e.before.lends.ensures ∙ e.if1.true) (h.hold_at.ensures k) (sym v.is_live.ensures ∙ c.if2.true)
+    lend_live q.before.loop.invariant k (sym e.before.lends.ensures ∙ e.if1.true) (h.hold_at.ensures k) (sym v.is_live.ensures ∙ c.if2.true)
 
 loop-again-2 : tie.Need-loop-preserved-2 invariant-loop decreases-loop
 loop-again-2 c =
@@ -33,7 +33,7 @@ loop-again-2 c =
     let e = h.before in
     let q = e.before.before in
     let k = q.loop-test.true in
-    lend-quiet q.before.loop.invariant k (sym e.before.lends.ensures ∙ e.if1.true) (h.hold_at.ensures k) (sym v.is_live.ensures ∙ o.if2.false) (sym u.is_held_lem.ensures ∙ c.if3.true)
+    lend_quiet q.before.loop.invariant k (sym e.before.lends.ensures ∙ e.if1.true) (h.hold_at.ensures k) (sym v.is_live.ensures ∙ o.if2.false) (sym u.is_held_lem.ensures ∙ c.if3.true)
 
 returns : tie.Need-returns invariant-loop decreases-loop
 returns c =
@@ -42,13 +42,13 @@ returns c =
     let e = h.before in
     let q = e.before.before in
     let k = q.loop-test.true in
-    lend-free q.before.loop.invariant k (sym e.before.lends.ensures ∙ e.if1.true) (h.hold_at.ensures k) (sym u.is_held_lem.ensures ∙ c.if3.false)
+    lend_free q.before.loop.invariant k (sym e.before.lends.ensures ∙ e.if1.true) (h.hold_at.ensures k) (sym u.is_held_lem.ensures ∙ c.if3.false)
 
 loop-again-3 : tie.Need-loop-preserved-3 invariant-loop decreases-loop
-loop-again-3 c = let q = c.before.before in lend-skip q.before.loop.invariant q.loop-test.true (sym c.before.lends.ensures ∙ c.if1.false)
+loop-again-3 c = let q = c.before.before in lend_skip q.before.loop.invariant q.loop-test.true (sym c.before.lends.ensures ∙ c.if1.false)
 
 returns-2 : tie.Need-returns-2 invariant-loop decreases-loop
-returns-2 c = lend-done c.before.loop.invariant c.loop-test.false
+returns-2 c = lend_done c.before.loop.invariant c.loop-test.false
 
 pub lend-fault-spec : {M : Type 1} → statement M
 lend-fault-spec =

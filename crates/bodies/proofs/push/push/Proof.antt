@@ -1,7 +1,7 @@
 -- The frame, the depth, and a step.
 use native.Mathlib.Omega.{arith}
 use mathlib.Core.Path.{refl}
-use Rattle.bodies.proofs.Pushing.{push-done}
+use Rattle.bodies.proofs.Pushing.{push_done}
 use borrow.Author.Rules.{rules}
 use Rattle.bodies.proofs.push.push.Statement.{statement}
 use Rattle.bodies.proofs.push.push.Tie as tie
@@ -14,7 +14,7 @@ returns-2 c =
     let n = c.before.before in
     let h = n.before.before.before.before in
     let g = h.before.before.before.before in
-    push-done g.before.before.before.depth-at.ensures g.put-frame.ensures h.put-depth.ensures n.counted.ensures
+    push_done g.before.before.before.depth-at.ensures g.put-frame.ensures h.put-depth.ensures n.counted.ensures
 
 pub push_spec : {M : Type 1} → statement M
 push_spec =

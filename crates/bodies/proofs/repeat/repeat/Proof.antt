@@ -1,7 +1,7 @@
 -- Number 17, on, or the body.
 use mathlib.Core.Path.{sym, ◌∙◌}
 use Rattle.moves.proofs.Standings.{over, spent}
-use Rattle.bodies.proofs.Pushing.{repeat-none, repeat-some}
+use Rattle.bodies.proofs.Pushing.{repeat_none, repeat_some}
 use borrow.Author.Rules.{rules}
 use Rattle.bodies.proofs.repeat.repeat.Statement.{statement}
 use Rattle.bodies.proofs.repeat.repeat.Tie as tie
@@ -14,14 +14,14 @@ returns-2 c =
     let g = c.before.before in
     let n = g.before.before in
     let e = n.before in
-    record { turns = λ p s l w. repeat-none l (sym e.if1.false ∙ e.before.is-spent.ensures.reads s l) w n.if2.true g.go_on.ensures }
+    record { turns = λ p s l w. repeat_none l (sym e.if1.false ∙ e.before.is-spent.ensures.reads s l) w n.if2.true g.go_on.ensures }
 
 returns-3 : tie.Need-returns-3
 returns-3 c =
     let g = c.before.before in
     let n = g.before.before in
     let e = n.before in
-    record { turns = λ p s l w. repeat-some l (sym e.if1.false ∙ e.before.is-spent.ensures.reads s l) w n.if2.false g.push.ensures }
+    record { turns = λ p s l w. repeat_some l (sym e.if1.false ∙ e.before.is-spent.ensures.reads s l) w n.if2.false g.push.ensures }
 
 pub repeat-spec : {M : Type 1} → statement M
 repeat-spec =

@@ -1,6 +1,6 @@
 -- The child, or the fault.
 use mathlib.Core.Path.{◌∙◌}
-use Rattle.bodies.proofs.Spawns.{met, met-number}
+use Rattle.bodies.proofs.Spawns.{met, met_number}
 use borrow.Author.Rules.{rules}
 use Rattle.bodies.proofs.spawn.spawn.Statement.{statement}
 use Rattle.bodies.proofs.spawn.spawn.Tie as tie
@@ -16,7 +16,7 @@ returns-2 c =
     let g = c.before.before in
     let x = g.before in
     let e = x.before.before in
-    record { turns = λ k s l w. g.fail.ensures.fails _ s _ l w (met-number k l w e.before.async-fault.ensures e.if1.false x.fault-of.ensures) }
+    record { turns = λ k s l w. g.fail.ensures.fails _ s _ l w (met_number k l w e.before.async-fault.ensures e.if1.false x.fault-of.ensures) }
 
 pub spawn-spec : {M : Type 1} → statement M
 spawn-spec =

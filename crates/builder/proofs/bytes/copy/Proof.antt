@@ -3,7 +3,7 @@ use Prim.Native.Nat.{◌≤◌, ◌-◌}
 use native.Mathlib.Omega.{arith}
 use mathlib.Core.Path.{◌≡◌, refl, ap, ◌∙◌}
 use lib.ListN.{length, get_or, set}
-use Rattle.builder.proofs.Copied.{copied, copied_more, copied-long, copied_all}
+use Rattle.builder.proofs.Copied.{copied, copied_more, copied_long, copied_all}
 use Rattle.builder.proofs.bytes.copy.Statement.{statement}
 use Rattle.builder.proofs.bytes.copy.Tie as tie
 
@@ -15,7 +15,7 @@ decreases-loop made out₀ i₀ out i = length made - i
 
 -- The buffer keeps its length.
 long : (c : tie.At-loop invariant-loop decreases-loop) → length c.loop.out ≡ length c.before.args.out.now
-long c = ap length c.loop.invariant.1 ∙ copied-long _ _ c.loop.i c.loop.invariant.0 (omega (arith, c.loop.invariant.0, c.before.requires))
+long c = ap length c.loop.invariant.1 ∙ copied_long _ _ c.loop.i c.loop.invariant.0 (omega (arith, c.loop.invariant.0, c.before.requires))
 
 loop-again : tie.Need-loop-preserved invariant-loop decreases-loop
 loop-again c =

@@ -8,7 +8,7 @@ use borrow.Author.Rules.{rules}
 use lib.ListN.{length, get_or, take, drop, length-drop, length-set}
 use lib.Seq.{length-take-le}
 use Rattle.program.proofs.RowLaws.{width_few}
-use Rattle.builder.proofs.Filling.{Filling, filling-none, filling-over, filling-more, filling-done}
+use Rattle.builder.proofs.Filling.{Filling, filling_none, filling_over, filling_more, filling_done}
 use Rattle.builder.proofs.bytes.fill.Statement.{statement}
 use Rattle.builder.proofs.bytes.fill.Tie as tie
 
@@ -35,18 +35,18 @@ same_length c = c.before.before.before.before.loop.invariant.full ∙ sym c.befo
 returns : tie.Need-returns invariant-loop decreases-loop
 returns c =
     let s = c.before in
-    filling-over s.before.before.before.loop.invariant s.before.before.loop-test.true s.size_of.ensures.1 s.size_of.ensures.0 c.if1.true
+    filling_over s.before.before.before.loop.invariant s.before.before.loop-test.true s.size_of.ensures.1 s.size_of.ensures.0 c.if1.true
 
 loop-again : tie.Need-loop-preserved invariant-loop decreases-loop
 loop-again c =
     let e = c.before.before.before.before.before in
     let s = e.before in
-    filling-more s.before.before.before.loop.invariant s.before.before.loop-test.true s.size_of.ensures.1 s.size_of.ensures.0 e.if1.false
+    filling_more s.before.before.before.loop.invariant s.before.before.loop-test.true s.size_of.ensures.1 s.size_of.ensures.0 e.if1.false
     (c.before.before.before.put-entry.ensures ∙ ap (λ k. take k (get_or s.before.before.before.before.before.args.entries.now s.before.before.before.loop.i [])) (part-long e))
     c.with-end.ensures
 
 returns-2 : tie.Need-returns-2 invariant-loop decreases-loop
-returns-2 c = filling-done c.before.loop.invariant c.loop-test.false
+returns-2 c = filling_done c.before.loop.invariant c.loop-test.false
 
 pub fill_spec : {M : Type 1} → statement M
 fill_spec =
@@ -54,7 +54,7 @@ fill_spec =
     (tie.spec
     invariant-loop
     decreases-loop
-    (λ c. filling-none _ _ c.before.requires)
+    (λ c. filling_none _ _ c.before.requires)
     (λ mul-entry. search rules)
     (λ shared-slice-copy-out-entry. search rules)
     (λ size-of-requires κs. search rules)

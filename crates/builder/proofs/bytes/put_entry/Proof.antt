@@ -4,7 +4,7 @@ use native.Mathlib.Omega.{arith}
 use mathlib.Core.Path.{◌≡◌, refl, ap, ◌∙◌}
 use borrow.Author.Rules.{rules}
 use lib.ListN.{length, get_or, set}
-use Rattle.builder.proofs.Copied.{copied, copied_more, copied-long, copied-over}
+use Rattle.builder.proofs.Copied.{copied, copied_more, copied_long, copied_over}
 use Rattle.builder.proofs.bytes.put_entry.Statement.{statement}
 use Rattle.builder.proofs.bytes.put_entry.Tie as tie
 
@@ -19,7 +19,7 @@ five : (c : tie.At-loop invariant-loop decreases-loop) → length c.before.args.
 five c = search rules
 
 long : (c : tie.At-loop invariant-loop decreases-loop) → length c.loop.out ≡ length c.before.args.out.now
-long c = ap length c.loop.invariant.1 ∙ copied-long _ _ c.loop.i (omega (arith, five c, c.before.requires, c.loop.invariant.0)) c.loop.invariant.0
+long c = ap length c.loop.invariant.1 ∙ copied_long _ _ c.loop.i (omega (arith, five c, c.before.requires, c.loop.invariant.0)) c.loop.invariant.0
 
 loop-again : tie.Need-loop-preserved invariant-loop decreases-loop
 loop-again c =
@@ -29,7 +29,7 @@ loop-again c =
     (omega arith, ap (λ x. set x l.i (get_or c.before.before.args.t1 l.i 0)) l.invariant.1 ∙ copied_more c.before.before.args.t1 _ l.i 0 (omega (arith, c.before.before.requires)) (omega arith))
 
 returns : tie.Need-returns invariant-loop decreases-loop
-returns c = c.before.loop.invariant.1 ∙ copied-over _ _ c.before.loop.i (omega (arith, long c.before, c.loop-test.false)) c.before.loop.invariant.0
+returns c = c.before.loop.invariant.1 ∙ copied_over _ _ c.before.loop.i (omega (arith, long c.before, c.loop-test.false)) c.before.loop.invariant.0
 
 pub put-entry-spec : {M : Type 1} → statement M
 put-entry-spec =

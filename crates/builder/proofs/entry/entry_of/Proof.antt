@@ -1,11 +1,11 @@
 -- The bytes are those of the definition, one by one.
 use borrow.Author.Rules.{rules}
-use Rattle.builder.specs.Build.{entryOf}
+use Rattle.builder.specs.Build.{entry_of}
 use Rattle.builder.proofs.entry.entry_of.Statement.{statement}
 use Rattle.builder.proofs.entry.entry_of.Tie as tie
 
 returns : tie.Need-returns
-unfolding entryOf
+unfolding entry_of
 returns c = rw (c.before.opcode.ensures.0, c.operands.ensures)
 
 pub entry-of-spec : {M : Type 1} → statement M

@@ -1,5 +1,5 @@
 -- The state of zeros, with main.
-use Rattle.calls.proofs.Beginning.{start-written, stays}
+use Rattle.calls.proofs.Beginning.{start_written, stays}
 use borrow.Author.Rules.{rules}
 use Rattle.calls.proofs.begin.put_start.Statement.{statement}
 use Rattle.calls.proofs.begin.put_start.Tie as tie
@@ -10,7 +10,7 @@ returns c =
     let a = d.before.before.before.before in
     let p = a.before.before.before.before in
     let t = p.before.before in
-    start-written t.before.before.args.state.now t.if1.true p.put-none.ensures a.put-activities.ensures d.put-depth.ensures
+    start_written t.before.before.args.state.now t.if1.true p.put-none.ensures a.put-activities.ensures d.put-depth.ensures
 
 returns-2 : tie.Need-returns-2
 returns-2 c = stays c.before.before.args.state.now _ c.if1.false

@@ -2,8 +2,8 @@
 use Prim.Native.Nat.{◌-◌}
 use native.Mathlib.Omega.{arith}
 use mathlib.Core.Path.{sym, ◌∙◌}
-use Rattle.encoding.proofs.PartLaws.{turn-sized}
-use Rattle.calls.proofs.Rows.{Rowed, rowed-none, rowed-more, rowed-all}
+use Rattle.encoding.proofs.PartLaws.{turn_sized}
+use Rattle.calls.proofs.Rows.{Rowed, rowed_none, rowed_more, rowed_all}
 use borrow.Author.Rules.{rules}
 use Rattle.calls.proofs.sheet.put_rows.Statement.{statement}
 use Rattle.calls.proofs.sheet.put_rows.Tie as tie
@@ -15,7 +15,7 @@ abbrev decreases-loop : tie.decreases-loop
 decreases-loop state out₀ i₀ out i = 64 - i
 
 loop-holds : tie.Need-loop-init invariant-loop decreases-loop
-loop-holds c = rowed-none c.before.before.requires
+loop-holds c = rowed_none c.before.before.requires
 
 part-put-row-end : tie.Need-slice-bounds-put-row-end invariant-loop decreases-loop
 part-put-row-end c = let z = c.before.before.loop.invariant.sized in omega arith
@@ -23,20 +23,20 @@ part-put-row-end c = let z = c.before.before.loop.invariant.sized in omega arith
 put-row-requires : tie.Need-put-row-requires invariant-loop decreases-loop
 put-row-requires c κs =
     let t = c.before.before in
-    turn-sized _ 16 t.before.loop.i 64 t.before.loop.invariant.sized t.loop-test.true
+    turn_sized _ 16 t.before.loop.i 64 t.before.loop.invariant.sized t.loop-test.true
 
 loop-again : tie.Need-loop-preserved invariant-loop decreases-loop
 loop-again c =
     let w = c.before.before in
     let r = w.before.before in
     let t = r.before in
-    rowed-more t.before.loop.invariant t.loop-test.true r.sheet-row.ensures w.put-row.auto.1.0 w.put-row.ensures
+    rowed_more t.before.loop.invariant t.loop-test.true r.sheet-row.ensures w.put-row.auto.1.0 w.put-row.ensures
 
 same_length : tie.Need-same-length invariant-loop decreases-loop
 same_length c = c.before.loop.invariant.sized ∙ sym c.before.before.before.before.requires
 
 returns : tie.Need-returns invariant-loop decreases-loop
-returns c = rowed-all c.before.loop.invariant c.loop-test.false
+returns c = rowed_all c.before.loop.invariant c.loop-test.false
 
 pub put-rows-spec : {M : Type 1} → statement M
 put-rows-spec =

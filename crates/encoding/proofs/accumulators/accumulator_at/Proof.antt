@@ -1,11 +1,11 @@
 -- Field by field.
-use Rattle.encoding.specs.Decode.{accumulatorAt}
+use Rattle.encoding.specs.Decode.{accumulator_at}
 use borrow.Author.Rules.{rules}
 use Rattle.encoding.proofs.accumulators.accumulator_at.Statement.{statement}
 use Rattle.encoding.proofs.accumulators.accumulator_at.Tie as tie
 
 returns : tie.Need-returns
-unfolding accumulatorAt
+unfolding accumulator_at
 returns c = rw (c.before.before.before.number.ensures, c.before.operator-of.ensures)
 
 pub accumulator-at-spec : {M : Type 1} → statement M

@@ -6,10 +6,10 @@ use mathlib.Core.Path.{sym, ◌∙◌}
 use lib.ListN.{replicate, set, length-set}
 use borrow.Rule.Slice.PartMut.{put_mid}
 use Rattle.rules.specs.declared.state.Accumulator.{Accumulator}
-use Rattle.rules.specs.State.{operatorNumber}
+use Rattle.rules.specs.State.{operator_number}
 use Rattle.encoding.specs.Bytes.{bytes_of}
-use Rattle.encoding.specs.Encode.{encodeAccumulator}
-use Rattle.encoding.proofs.FieldLaws.{Upto, none_yet, store, store-as, put_of, all}
+use Rattle.encoding.specs.Encode.{encode_accumulator}
+use Rattle.encoding.proofs.FieldLaws.{Upto, none_yet, store, store_as, put_of, all}
 use borrow.Author.Rules.{rules}
 use Rattle.encoding.proofs.accumulators.put_accumulator.Statement.{statement}
 use Rattle.encoding.proofs.accumulators.put_accumulator.Tie as tie
@@ -25,16 +25,16 @@ abbrev accumulator-of : tie.After-slice-known2 → Accumulator
 accumulator-of c = c.before.before.before.before.before.before.args.a
 
 headed : (c : tie.After-slice-known2)
-    → Upto (headed-bytes c) 24 6 (bytes_of 4 (accumulator-of c).value ++ ((accumulator-of c).owner ∷ []) ++ (operatorNumber (accumulator-of c).operator ∷ []))
+    → Upto (headed-bytes c) 24 6 (bytes_of 4 (accumulator-of c).value ++ ((accumulator-of c).owner ∷ []) ++ (operator_number (accumulator-of c).operator ∷ []))
 headed c =
     let w = c.before.before.put-number in
     let s = c.before.before.before.before.before.before in
     let a = put_of 4 (λ k. bytes_of k s.args.a.value) w.new.1.0 (none_yet s.args.out.now 24 s.requires) (omega arith) w.auto.1.0 w.ensures in
     let r = c.before.before.before.before.operator-number in
-    store-as r.result (operatorNumber s.args.a.operator) r.ensures (store s.args.a.owner a (omega arith)) (omega arith)
+    store_as r.result (operator_number s.args.a.operator) r.ensures (store s.args.a.owner a (omega arith)) (omega arith)
 
-zeroed : (c : tie.After-put-zeros) → Upto (put_mid 6 18 (headed-bytes c.before.before) c.put-zeros.new.0) 24 24 (encodeAccumulator (accumulator-of c.before.before))
-unfolding encodeAccumulator bytes_of
+zeroed : (c : tie.After-put-zeros) → Upto (put_mid 6 18 (headed-bytes c.before.before) c.put-zeros.new.0) 24 24 (encode_accumulator (accumulator-of c.before.before))
+unfolding encode_accumulator bytes_of
 zeroed c =
     let w = c.put-zeros in
     put_of 18 (λ k. replicate k 0) w.new.0 (headed c.before.before) (omega arith) w.auto.0 w.ensures

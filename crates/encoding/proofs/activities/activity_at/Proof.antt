@@ -1,9 +1,9 @@
 -- Field by field.
 use native.Mathlib.Omega.{arith}
 use mathlib.Core.Path.{refl}
-use Rattle.encoding.specs.Decode.{activityAt}
+use Rattle.encoding.specs.Decode.{activity_at}
 use Rattle.encoding.proofs.FieldLaws.{sized}
-use Rattle.encoding.proofs.Passed.{activity-passes}
+use Rattle.encoding.proofs.Passed.{activity_passes_lem}
 use borrow.Author.Rules.{rules}
 use Rattle.encoding.proofs.activities.activity_at.Statement.{statement}
 use Rattle.encoding.proofs.activities.activity_at.Tie as tie
@@ -11,10 +11,10 @@ use Rattle.encoding.proofs.activities.activity_at.Tie as tie
 holds-at-requires : tie.Need-holds-at-requires
 holds-at-requires c κs =
     let s = c.before.before.before.before.before.before.before.before.before in
-    (sized s.args.bytes.now 16 64 64 refl (omega arith), (activity-passes s.args.bytes.now s.requires.1).holds)
+    (sized s.args.bytes.now 16 64 64 refl (omega arith), (activity_passes_lem s.args.bytes.now s.requires.1).holds)
 
 returns : tie.Need-returns
-unfolding activityAt
+unfolding activity_at
 returns c =
     let framed = c.before.before in
     let held = framed.before.before in

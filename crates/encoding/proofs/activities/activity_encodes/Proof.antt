@@ -1,17 +1,17 @@
 -- The first field that breaks its rule decides.
 use mathlib.Core.Path.{sym, ◌∙◌}
 use borrow.Author.Tests.{not-true, not-false}
-use Rattle.encoding.specs.Decode.{activityEncodes}
+use Rattle.encoding.specs.Decode.{activity_encodes}
 use borrow.Author.Rules.{rules}
 use Rattle.encoding.proofs.activities.activity_encodes.Statement.{statement}
 use Rattle.encoding.proofs.activities.activity_encodes.Tie as tie
 
 returns : tie.Need-returns
-unfolding activityEncodes
+unfolding activity_encodes
 returns c = rw (sym c.before.status-passes.ensures ∙ not-true _ c.if1.true)
 
 returns-2 : tie.Need-returns-2
-unfolding activityEncodes
+unfolding activity_encodes
 returns-2 c =
     rw (
       sym c.before.before.before.before.status-passes.ensures ∙ not-false _ c.before.before.before.if1.false,
@@ -19,7 +19,7 @@ returns-2 c =
     )
 
 returns-3 : tie.Need-returns-3
-unfolding activityEncodes
+unfolding activity_encodes
 returns-3 c =
     rw (
       sym c.before.before.before.before.before.before.status-passes.ensures ∙ not-false _ c.before.before.before.before.before.if1.false,

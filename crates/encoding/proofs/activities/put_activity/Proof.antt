@@ -6,9 +6,9 @@ use mathlib.Core.Path.{refl, sym, ◌∙◌}
 use lib.ListN.{set, length-set}
 use borrow.Rule.Slice.PartMut.{put_mid}
 use Rattle.rules.specs.declared.state.Activity.{Activity}
-use Rattle.encoding.specs.Bytes.{bytes_of, encodeEach}
-use Rattle.encoding.specs.Encode.{statusByte, faultByte, encodeHold, encodeActivity}
-use Rattle.encoding.proofs.FieldLaws.{Upto, none_yet, store, store-as, put, put_of, all}
+use Rattle.encoding.specs.Bytes.{bytes_of, encode_each}
+use Rattle.encoding.specs.Encode.{status_byte, fault_byte, encode_hold, encode_activity}
+use Rattle.encoding.proofs.FieldLaws.{Upto, none_yet, store, store_as, put, put_of, all}
 use borrow.Author.Rules.{rules}
 use Rattle.encoding.proofs.activities.put_activity.Statement.{statement}
 use Rattle.encoding.proofs.activities.put_activity.Tie as tie
@@ -25,13 +25,13 @@ to-holds c = c.before.before.before.before
 
 -- the bytes of an activity up to each of them
 abbrev head : Activity → List ℕ
-head a = bytes_of 4 a.register ++ (statusByte a.status ∷ []) ++ (faultByte a.status ∷ []) ++ (a.spawner ∷ []) ++ (a.depth ∷ [])
+head a = bytes_of 4 a.register ++ (status_byte a.status ∷ []) ++ (fault_byte a.status ∷ []) ++ (a.spawner ∷ []) ++ (a.depth ∷ [])
 
 abbrev and-names : Activity → List ℕ
 and-names a = head a ++ a.accumulators
 
 abbrev and-holds : Activity → List ℕ
-and-holds a = and-names a ++ encodeEach encodeHold a.holds
+and-holds a = and-names a ++ encode_each encode_hold a.holds
 
 -- the bytes up to the accumulator names
 abbrev headed-bytes : tie.After-slice-known2 → List ℕ
@@ -47,8 +47,8 @@ headed c =
     let w = c.before.before.put-number in
     let a = (start c).args.a in
     let u = put_of 4 (λ k. bytes_of k a.register) w.new.1.0 (none_yet (start c).args.out.now 208 (start c).requires) (omega arith) w.auto.1.0 w.ensures in
-    let v = store-as f.before.status-byte.result (statusByte a.status) f.before.status-byte.ensures u (omega arith) in
-    store a.depth (store a.spawner (store-as f.fault-byte.result (faultByte a.status) f.fault-byte.ensures v (omega arith)) (omega arith)) (omega arith)
+    let v = store_as f.before.status-byte.result (status_byte a.status) f.before.status-byte.ensures u (omega arith) in
+    store a.depth (store a.spawner (store_as f.fault-byte.result (fault_byte a.status) f.fault-byte.ensures v (omega arith)) (omega arith)) (omega arith)
 
 -- the bytes up to the clock names
 abbrev named-bytes : tie.After-slice-known3 → List ℕ
@@ -66,8 +66,8 @@ held c = let w = c.before.before.Put-Holds in put 64 64 w.new.1.0 _ (named (to-h
 
 -- all bytes
 framed : (c : tie.After-put-frames)
-    → Upto (put_mid 80 128 (held_bytes c.before.before) c.put-frames.new.1.0) 208 208 (encodeActivity (start (to-names (to-holds c.before.before))).args.a)
-unfolding encodeActivity bytes_of
+    → Upto (put_mid 80 128 (held_bytes c.before.before) c.put-frames.new.1.0) 208 208 (encode_activity (start (to-names (to-holds c.before.before))).args.a)
+unfolding encode_activity bytes_of
 framed c = let w = c.put-frames in put 128 128 w.new.1.0 _ (held c.before.before) (omega arith) refl w.auto.1.0 w.ensures
 
 same_length : tie.Need-same-length

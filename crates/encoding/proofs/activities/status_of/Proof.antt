@@ -2,13 +2,13 @@
 use Prim.Native.Nat.{ℕ, zero, suc}
 use mathlib.Core.Path.{◌≡◌, refl}
 use Rattle.rules.specs.declared.state.Status.TheVariants.{Running}
-use Rattle.encoding.specs.Decode.{statusOf}
+use Rattle.encoding.specs.Decode.{status_of}
 use borrow.Author.Rules.{rules}
 use Rattle.encoding.proofs.activities.status_of.Statement.{statement}
 use Rattle.encoding.proofs.activities.status_of.Tie as tie
 
 -- None of 1, 2 and 3: running.
-rest : (n f : ℕ) → (n ≡ 1 → ⊥) → (n ≡ 2 → ⊥) → (n ≡ 3 → ⊥) → Running ≡ statusOf n f
+rest : (n f : ℕ) → (n ≡ 1 → ⊥) → (n ≡ 2 → ⊥) → (n ≡ 3 → ⊥) → Running ≡ status_of n f
 rest zero f h1 h2 h3 = refl
 rest (suc zero) f h1 h2 h3 = absurd (h1 refl)
 rest (suc (suc zero)) f h1 h2 h3 = absurd (h2 refl)

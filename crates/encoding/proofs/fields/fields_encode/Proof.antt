@@ -1,17 +1,17 @@
 -- The first field that breaks its rule decides.
 use mathlib.Core.Path.{sym, ◌∙◌}
 use borrow.Author.Tests.{eq-eqb, ne_eqb, le-leb, lt-leb, not-true, not-false}
-use Rattle.encoding.specs.Decode.{fieldsEncode}
+use Rattle.encoding.specs.Decode.{fields_encode}
 use borrow.Author.Rules.{rules}
 use Rattle.encoding.proofs.fields.fields_encode.Statement.{statement}
 use Rattle.encoding.proofs.fields.fields_encode.Tie as tie
 
 returns : tie.Need-returns
-unfolding fieldsEncode
+unfolding fields_encode
 returns c = rw (ne_eqb _ 1 c.if1.true)
 
 returns-2 : tie.Need-returns-2
-unfolding fieldsEncode
+unfolding fields_encode
 returns-2 c =
     rw (
       eq-eqb _ 1 c.before.before.before.if1.false,
@@ -19,7 +19,7 @@ returns-2 c =
     )
 
 returns-3 : tie.Need-returns-3
-unfolding fieldsEncode
+unfolding fields_encode
 returns-3 c =
     rw (
       eq-eqb _ 1 c.before.before.before.before.before.before.if1.false,
@@ -28,7 +28,7 @@ returns-3 c =
     )
 
 returns-4 : tie.Need-returns-4
-unfolding fieldsEncode
+unfolding fields_encode
 returns-4 c =
     rw (
       eq-eqb _ 1 c.before.before.before.before.before.before.before.before.before.if1.false,
@@ -38,7 +38,7 @@ returns-4 c =
     )
 
 returns-5 : tie.Need-returns-5
-unfolding fieldsEncode
+unfolding fields_encode
 returns-5 c =
     rw (
       eq-eqb _ 1 c.before.before.before.before.before.before.before.before.before.before.before.if1.false,

@@ -6,8 +6,8 @@ use mathlib.Core.Path.{refl, sym, ◌∙◌}
 use lib.ListN.{replicate, set, length-set}
 use borrow.Rule.Slice.PartMut.{put_mid}
 use Rattle.rules.specs.declared.state.State.{State}
-use Rattle.encoding.specs.Bytes.{bytes_of, encodeEach}
-use Rattle.encoding.specs.Encode.{encodeHead}
+use Rattle.encoding.specs.Bytes.{bytes_of, encode_each}
+use Rattle.encoding.specs.Encode.{encode_head}
 use Rattle.encoding.proofs.FieldLaws.{Upto, none_yet, store, put, put_of, all}
 use borrow.Author.Rules.{rules}
 use Rattle.encoding.proofs.fields.put_head.Statement.{statement}
@@ -34,7 +34,7 @@ abbrev and-zeros : State → List ℕ
 and-zeros s = numbers s ++ replicate 8 0
 
 abbrev and-cells : State → List ℕ
-and-cells s = and-zeros s ++ encodeEach (bytes_of 4) s.cells
+and-cells s = and-zeros s ++ encode_each (bytes_of 4) s.cells
 
 -- the bytes up to the reserved ones
 abbrev numbered-bytes : tie.After-slice-known2 → List ℕ
@@ -67,7 +67,7 @@ celled c = let w = c.before.before.put-cells in put 64 64 w.new.1.0 _ (zeroed (t
 abbrev accumulated-bytes : tie.After-slice-known5 → List ℕ
 accumulated-bytes c = put_mid 80 384 (celled-bytes (to-accumulators c)) c.before.before.put-accumulators.new.1.0
 
-accumulated : (c : tie.After-slice-known5) → Upto (accumulated-bytes c) 464 464 (encodeHead (start (to-zeros (to-cells (to-accumulators c)))).args.s)
+accumulated : (c : tie.After-slice-known5) → Upto (accumulated-bytes c) 464 464 (encode_head (start (to-zeros (to-cells (to-accumulators c)))).args.s)
 accumulated c = let w = c.before.before.put-accumulators in put 384 384 w.new.1.0 _ (celled (to-accumulators c)) (omega arith) refl w.auto.1.0 w.ensures
 
 same_length : tie.Need-same-length

@@ -3,7 +3,7 @@ use native.Mathlib.Omega.{arith}
 use mathlib.Core.Path.{refl}
 use Rattle.encoding.specs.Decode.{state_of}
 use Rattle.encoding.proofs.FieldLaws.{sized}
-use Rattle.encoding.proofs.Passed.{state-passes}
+use Rattle.encoding.proofs.Passed.{state_passes}
 use borrow.Author.Rules.{rules}
 use Rattle.encoding.proofs.fields.state_at.Statement.{statement}
 use Rattle.encoding.proofs.fields.state_at.Tie as tie
@@ -11,12 +11,12 @@ use Rattle.encoding.proofs.fields.state_at.Tie as tie
 cast-steps : tie.Need-overflow-cast-steps
 cast-steps c =
     let s = c.before.before.before in
-    omega (arith, c.number.ensures, (state-passes s.args.bytes.now s.requires.1).steps)
+    omega (arith, c.number.ensures, (state_passes s.args.bytes.now s.requires.1).steps)
 
 activities-at-requires : tie.Need-activities-at-requires
 activities-at-requires c κs =
     let s = c.before.before.before.before.before.before.before.before in
-    (sized s.args.bytes.now 464 13312 13312 refl (omega arith), (state-passes s.args.bytes.now s.requires.1).acts)
+    (sized s.args.bytes.now 464 13312 13312 refl (omega arith), (state_passes s.args.bytes.now s.requires.1).acts)
 
 returns : tie.Need-returns
 unfolding state_of

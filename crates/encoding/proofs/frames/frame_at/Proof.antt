@@ -2,8 +2,8 @@
 use mathlib.Core.Path.{refl}
 use native.Mathlib.Omega.{arith}
 use Rattle.encoding.specs.Bytes.{part}
-use Rattle.encoding.specs.Decode.{frameAt}
-use Rattle.encoding.proofs.NumberLaws.{number-below}
+use Rattle.encoding.specs.Decode.{frame_at}
+use Rattle.encoding.proofs.NumberLaws.{number_below}
 use Rattle.encoding.proofs.FieldLaws.{sized, part_bytes}
 use borrow.Author.Rules.{rules}
 use Rattle.encoding.proofs.frames.frame_at.Statement.{statement}
@@ -13,10 +13,10 @@ cast-offset : tie.Need-overflow-cast-offset
 cast-offset c =
     let b = c.before.before.before.args.bytes.now in
     let known = part_bytes b 0 2 (λ i. omega (arith, c.before.before.shared-slice-known.given i)) in
-    omega (arith, c.number.ensures, number-below 2 (part b 0 2) known (rw (sized b 0 2 2 refl (omega arith)) (omega arith)))
+    omega (arith, c.number.ensures, number_below 2 (part b 0 2) known (rw (sized b 0 2 2 refl (omega arith)) (omega arith)))
 
 returns : tie.Need-returns
-unfolding frameAt
+unfolding frame_at
 returns c = rw c.before.before.before.number.ensures
 
 pub frame-at-spec : {M : Type 1} → statement M

@@ -1,11 +1,11 @@
 -- The reserved bytes decide.
-use Rattle.encoding.specs.Decode.{frameEncodes}
+use Rattle.encoding.specs.Decode.{frame_encodes}
 use borrow.Author.Rules.{rules}
 use Rattle.encoding.proofs.frames.frame_encodes.Statement.{statement}
 use Rattle.encoding.proofs.frames.frame_encodes.Tie as tie
 
 returns : tie.Need-returns
-unfolding frameEncodes
+unfolding frame_encodes
 returns c = c.are-zero.ensures
 
 pub frame-encodes-spec : {M : Type 1} → statement M

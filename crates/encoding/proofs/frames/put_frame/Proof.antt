@@ -7,7 +7,7 @@ use lib.ListN.{replicate, set, length-set}
 use borrow.Rule.Slice.PartMut.{put_mid}
 use Rattle.rules.specs.declared.state.Frame.{Frame}
 use Rattle.encoding.specs.Bytes.{bytes_of}
-use Rattle.encoding.specs.Encode.{encodeFrame}
+use Rattle.encoding.specs.Encode.{encode_frame}
 use Rattle.encoding.proofs.FieldLaws.{Upto, none_yet, store, put_of, all}
 use borrow.Author.Rules.{rules}
 use Rattle.encoding.proofs.frames.put_frame.Statement.{statement}
@@ -31,8 +31,8 @@ headed c =
     let a = put_of 2 (λ k. bytes_of k s.args.f.offset) w.new.1.0 (none_yet s.args.out.now 8 s.requires) (omega arith) w.auto.1.0 w.ensures in
     store s.args.f.first (store s.args.f.runs (store s.args.f.body a (omega arith)) (omega arith)) (omega arith)
 
-zeroed : (c : tie.After-put-zeros) → Upto (put_mid 5 3 (headed-bytes c.before.before) c.put-zeros.new.0) 8 8 (encodeFrame (frame-of c.before.before))
-unfolding encodeFrame bytes_of
+zeroed : (c : tie.After-put-zeros) → Upto (put_mid 5 3 (headed-bytes c.before.before) c.put-zeros.new.0) 8 8 (encode_frame (frame-of c.before.before))
+unfolding encode_frame bytes_of
 zeroed c =
     let w = c.put-zeros in
     put_of 3 (λ k. replicate k 0) w.new.0 (headed c.before.before) (omega arith) w.auto.0 w.ensures

@@ -3,34 +3,34 @@ use Prim.Native.Nat.{◌-◌}
 use native.Mathlib.Omega.{arith}
 use mathlib.Core.Path.{sym, ◌∙◌}
 use borrow.Author.Rules.{rules}
-use Rattle.encoding.specs.Encode.{encodeFrame}
-use Rattle.encoding.proofs.PartLaws.{turn-sized, Each, write-none, write-more, write_done}
+use Rattle.encoding.specs.Encode.{encode_frame}
+use Rattle.encoding.proofs.PartLaws.{turn_sized, Each, write_none, write_more, write_done}
 use Rattle.encoding.proofs.frames.put_frames.Statement.{statement}
 use Rattle.encoding.proofs.frames.put_frames.Tie as tie
 
 abbrev invariant-loop : tie.invariant-loop
-invariant-loop out₀ frames i₀ out i = Each encodeFrame frames 8 16 i out
+invariant-loop out₀ frames i₀ out i = Each encode_frame frames 8 16 i out
 
 abbrev decreases-loop : tie.decreases-loop
 decreases-loop out₀ frames i₀ out i = 16 - i
 
 loop-holds : tie.Need-loop-init invariant-loop decreases-loop
-loop-holds c = write-none encodeFrame c.before.args.t1 8 16 _ c.before.requires
+loop-holds c = write_none encode_frame c.before.args.t1 8 16 _ c.before.requires
 
 put-frame-requires : tie.Need-put-frame-requires invariant-loop decreases-loop
-put-frame-requires c κs = turn-sized _ 8 c.before.before.before.loop.i 16 c.before.before.before.loop.invariant.1.full c.before.before.loop-test.true
+put-frame-requires c κs = turn_sized _ 8 c.before.before.before.loop.i 16 c.before.before.before.loop.invariant.1.full c.before.before.loop-test.true
 
 loop-again : tie.Need-loop-preserved invariant-loop decreases-loop
 loop-again c =
     let l = c.before.before.before.before.before.before.loop in
     let w = c.before.before.put-frame in
-    write-more encodeFrame _ 8 16 l.i _ _ w.new.1.0 l.invariant (search rules) c.before.before.before.before.before.loop-test.true w.auto.1.0 w.ensures
+    write_more encode_frame _ 8 16 l.i _ _ w.new.1.0 l.invariant (search rules) c.before.before.before.before.before.loop-test.true w.auto.1.0 w.ensures
 
 same_length : tie.Need-same-length invariant-loop decreases-loop
 same_length c = c.before.loop.invariant.1.full ∙ sym c.before.before.before.requires
 
 returns : tie.Need-returns invariant-loop decreases-loop
-returns c = write_done encodeFrame _ 8 16 c.before.loop.i _ c.before.loop.invariant (search rules) c.loop-test.false
+returns c = write_done encode_frame _ 8 16 c.before.loop.i _ c.before.loop.invariant (search rules) c.loop-test.false
 
 pub put-frames-spec : {M : Type 1} → statement M
 put-frames-spec =

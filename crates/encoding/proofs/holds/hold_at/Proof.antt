@@ -1,16 +1,16 @@
 -- The phase is within its limit.
 use native.Mathlib.Omega.{arith}
-use Rattle.encoding.specs.Decode.{holdAt}
-use Rattle.encoding.proofs.Passed.{hold-passes}
+use Rattle.encoding.specs.Decode.{hold_at}
+use Rattle.encoding.proofs.Passed.{hold_passes}
 use borrow.Author.Rules.{rules}
 use Rattle.encoding.proofs.holds.hold_at.Statement.{statement}
 use Rattle.encoding.proofs.holds.hold_at.Tie as tie
 
 cast-phase : tie.Need-overflow-cast-phase
-cast-phase c = omega (arith, c.number.ensures, (hold-passes _ c.before.before.before.requires.1).phase)
+cast-phase c = omega (arith, c.number.ensures, (hold_passes _ c.before.before.before.requires.1).phase)
 
 returns : tie.Need-returns
-unfolding holdAt
+unfolding hold_at
 returns c = rw (c.before.before.before.number.ensures, c.before.registration-of.ensures)
 
 pub hold-at-spec : {M : Type 1} → statement M

@@ -1,20 +1,20 @@
 -- The first field that breaks its rule decides.
 use borrow.Author.Tests.{lt-leb, le-leb}
-use Rattle.encoding.specs.Decode.{holdEncodes}
+use Rattle.encoding.specs.Decode.{hold_encodes}
 use borrow.Author.Rules.{rules}
 use Rattle.encoding.proofs.holds.hold_encodes.Statement.{statement}
 use Rattle.encoding.proofs.holds.hold_encodes.Tie as tie
 
 returns : tie.Need-returns
-unfolding holdEncodes
+unfolding hold_encodes
 returns c = rw (lt-leb _ 65535 (rw c.before.number.ensures at c.if1.true))
 
 returns-2 : tie.Need-returns-2
-unfolding holdEncodes
+unfolding hold_encodes
 returns-2 c = rw (le-leb _ 65535 (rw c.before.before.before.number.ensures at c.before.before.if1.false), lt-leb _ 2 c.if2.true)
 
 returns-3 : tie.Need-returns-3
-unfolding holdEncodes
+unfolding hold_encodes
 returns-3 c =
     rw (le-leb _ 65535 (rw c.before.before.before.before.before.number.ensures at c.before.before.before.before.if1.false), le-leb _ 2 c.before.before.if2.false)
     c.are-zero.ensures

@@ -6,10 +6,10 @@ use mathlib.Core.Path.{sym, ◌∙◌}
 use lib.ListN.{replicate, set, length-set}
 use borrow.Rule.Slice.PartMut.{put_mid}
 use Rattle.rules.specs.declared.state.Hold.{Hold}
-use Rattle.rules.specs.State.{registrationNumber}
+use Rattle.rules.specs.State.{registration_number}
 use Rattle.encoding.specs.Bytes.{bytes_of}
-use Rattle.encoding.specs.Encode.{encodeHold}
-use Rattle.encoding.proofs.FieldLaws.{Upto, none_yet, store, store-as, put_of, all}
+use Rattle.encoding.specs.Encode.{encode_hold}
+use Rattle.encoding.proofs.FieldLaws.{Upto, none_yet, store, store_as, put_of, all}
 use borrow.Author.Rules.{rules}
 use Rattle.encoding.proofs.holds.put_hold.Statement.{statement}
 use Rattle.encoding.proofs.holds.put_hold.Tie as tie
@@ -25,16 +25,16 @@ abbrev hold-of : tie.After-slice-known2 → Hold
 hold-of c = c.before.before.before.before.before.before.before.args.h
 
 headed : (c : tie.After-slice-known2)
-    → Upto (headed-bytes c) 8 6 (bytes_of 4 (hold-of c).phase ++ ((hold-of c).clock ∷ []) ++ (registrationNumber (hold-of c).registration ∷ []))
+    → Upto (headed-bytes c) 8 6 (bytes_of 4 (hold-of c).phase ++ ((hold-of c).clock ∷ []) ++ (registration_number (hold-of c).registration ∷ []))
 headed c =
     let w = c.before.before.put-number in
     let s = c.before.before.before.before.before.before.before in
     let a = put_of 4 (λ k. bytes_of k s.args.h.phase) w.new.1.0 (none_yet s.args.out.now 8 s.requires) (omega arith) w.auto.1.0 w.ensures in
     let r = c.before.before.before.before.before.registration-number in
-    store-as r.result (registrationNumber s.args.h.registration) r.ensures (store s.args.h.clock a (omega arith)) (omega arith)
+    store_as r.result (registration_number s.args.h.registration) r.ensures (store s.args.h.clock a (omega arith)) (omega arith)
 
-zeroed : (c : tie.After-put-zeros) → Upto (put_mid 6 2 (headed-bytes c.before.before) c.put-zeros.new.0) 8 8 (encodeHold (hold-of c.before.before))
-unfolding encodeHold bytes_of
+zeroed : (c : tie.After-put-zeros) → Upto (put_mid 6 2 (headed-bytes c.before.before) c.put-zeros.new.0) 8 8 (encode_hold (hold-of c.before.before))
+unfolding encode_hold bytes_of
 zeroed c =
     let w = c.put-zeros in
     put_of 2 (λ k. replicate k 0) w.new.0 (headed c.before.before) (omega arith) w.auto.0 w.ensures

@@ -3,7 +3,7 @@ use Prim.Native.Nat.{◌-◌}
 use native.Mathlib.Omega.{arith}
 use mathlib.Core.Path.{refl}
 use Rattle.encoding.specs.Bytes.{number_of}
-use Rattle.encoding.proofs.PartLaws.{turn-sized, Reads, read_none, read_more, read_done}
+use Rattle.encoding.proofs.PartLaws.{turn_sized, Reads, read_none, read_more, read_done}
 use Rattle.encoding.proofs.numbers.cells_at.Statement.{statement}
 use Rattle.encoding.proofs.numbers.cells_at.Tie as tie
 
@@ -16,7 +16,7 @@ decreases-loop bytes cells₀ i₀ cells i = 16 - i
 number-requires : tie.Need-number-requires invariant-loop decreases-loop
 number-requires c κs =
     let start = c.before.before.before.before in
-    omega (arith, turn-sized start.args.bytes.now 4 c.before.before.loop.i 16 start.requires c.before.loop-test.true)
+    omega (arith, turn_sized start.args.bytes.now 4 c.before.before.loop.i 16 start.requires c.before.loop-test.true)
 
 loop-again : tie.Need-loop-preserved invariant-loop decreases-loop
 loop-again c = let test = c.before.before in read_more c.number.result test.before.loop.invariant test.loop-test.true c.number.ensures

@@ -6,7 +6,7 @@ use lib.ListN.{length, drop, length-drop}
 use lib.Seq.{drop-length}
 use Rattle.encoding.specs.Bytes.{number_of}
 use Rattle.program.proofs.Basic.{Bytes, bytes_drop}
-use Rattle.encoding.proofs.NumberLaws.{number-below, number_more}
+use Rattle.encoding.proofs.NumberLaws.{number_below, number_more}
 use Rattle.encoding.proofs.numbers.number.Statement.{statement}
 use Rattle.encoding.proofs.numbers.number.Tie as tie
 
@@ -25,7 +25,7 @@ below : (c : tie.After-wide invariant-loop decreases-loop) → c.before.before.b
 below c =
     let b = c.before.before.before.before.before.args.bytes.now in
     let i = c.before.before.before.loop.i in
-    let fits : number_of (drop i b) < 256 ^ 3 = number-below 3 (drop i b) (bytes_drop i b (known c)) (rw length-drop (omega arith)) in
+    let fits : number_of (drop i b) < 256 ^ 3 = number_below 3 (drop i b) (bytes_drop i b (known c)) (rw length-drop (omega arith)) in
     rw c.before.before.before.loop.invariant.1 fits
 
 loop-holds : tie.Need-loop-init invariant-loop decreases-loop

@@ -7,7 +7,7 @@ use mathlib.Core.Path.{◌≡◌, refl, ◌∙◌}
 use lib.ListN.{length, take, length-set}
 use borrow.Author.Rules.{rules}
 use Rattle.encoding.specs.Bytes.{bytes_of}
-use Rattle.encoding.proofs.NumberLaws.{bytes-more, bytes-done}
+use Rattle.encoding.proofs.NumberLaws.{bytes_more, bytes_done}
 use Rattle.encoding.proofs.numbers.put_number.Statement.{statement}
 use Rattle.encoding.proofs.numbers.put_number.Tie as tie
 
@@ -23,13 +23,13 @@ loop-holds c = (omega arith, refl, rw sub-zero)
 loop-again : tie.Need-loop-preserved invariant-loop decreases-loop
 loop-again c =
     let l = c.before.loop in
-    (simp length-set (omega arith), simp length-set l.invariant.1, bytes-more _ l.i _ l.left c.loop-test.true l.invariant.1 ∙ l.invariant.2)
+    (simp length-set (omega arith), simp length-set l.invariant.1, bytes_more _ l.i _ l.left c.loop-test.true l.invariant.1 ∙ l.invariant.2)
 
 same_length : tie.Need-same-length invariant-loop decreases-loop
 same_length c = c.before.loop.invariant.1
 
 returns : tie.Need-returns invariant-loop decreases-loop
-returns c = bytes-done _ c.before.loop.i _ _ c.loop-test.false c.before.loop.invariant.1 c.before.loop.invariant.2
+returns c = bytes_done _ c.before.loop.i _ _ c.loop-test.false c.before.loop.invariant.1 c.before.loop.invariant.2
 
 pub put-number-spec : {M : Type 1} → statement M
 put-number-spec =

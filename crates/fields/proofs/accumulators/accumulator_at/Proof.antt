@@ -1,9 +1,9 @@
 -- Four bytes, and two of one.
 use native.Mathlib.Omega.{arith}
 use mathlib.Core.Path.{ap, ◌∙◌}
-use Rattle.rules.specs.State.{accumulator, operatorOf}
-use Rattle.encoding.proofs.EnumLaws.{operator-there}
-use Rattle.fields.proofs.Head.{acc-number, value_there, owner-there, operator-byte}
+use Rattle.rules.specs.State.{accumulator, operator_of}
+use Rattle.encoding.proofs.EnumLaws.{operator_there}
+use Rattle.fields.proofs.Head.{acc_number, value_there, owner_there, operator_byte}
 use borrow.Author.Rules.{rules}
 use Rattle.fields.proofs.accumulators.accumulator_at.Statement.{statement}
 use Rattle.fields.proofs.accumulators.accumulator_at.Tie as tie
@@ -17,9 +17,9 @@ returns-2 c = λ h.
       reads =
           λ s l.
           let g = accumulator s _ in
-          let x = acc-number l h 0 4 c.before.before.before.get4.ensures (omega arith) (omega arith) ∙ value_there g (l.fine.values _) in
-          let y = acc-number l h 4 1 c.before.before.get1.ensures (omega arith) (omega arith) ∙ owner-there g in
-          let z = c.operator-of.ensures ∙ ap operatorOf (acc-number l h 5 1 c.before.get12.ensures (omega arith) (omega arith) ∙ operator-byte g) ∙ operator-there g.operator in
+          let x = acc_number l h 0 4 c.before.before.before.get4.ensures (omega arith) (omega arith) ∙ value_there g (l.fine.values _) in
+          let y = acc_number l h 4 1 c.before.before.get1.ensures (omega arith) (omega arith) ∙ owner_there g in
+          let z = c.operator-of.ensures ∙ ap operator_of (acc_number l h 5 1 c.before.get12.ensures (omega arith) (omega arith) ∙ operator_byte g) ∙ operator_there g.operator in
           rw (x, y, z);
     }
 

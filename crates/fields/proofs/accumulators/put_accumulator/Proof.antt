@@ -1,7 +1,7 @@
 -- Twenty-four bytes.
 use native.Mathlib.Omega.{arith}
 use Rattle.fields.proofs.Stands.{lent_length}
-use Rattle.fields.proofs.Head.{acc-write}
+use Rattle.fields.proofs.Head.{acc_write}
 use borrow.Author.Rules.{rules}
 use Rattle.fields.proofs.accumulators.put_accumulator.Statement.{statement}
 use Rattle.fields.proofs.accumulators.put_accumulator.Tie as tie
@@ -13,7 +13,7 @@ returns-2 : tie.Need-returns-2
 returns-2 c = λ h. record { writes = λ s l. absurd (let z : ⊥ = omega arith in z) }
 
 returns-3 : tie.Need-returns-3
-returns-3 c = λ h. record { writes = λ s l. let w = c.before.before.put-accumulator in acc-write l h _ w.new.1.0 w.ensures (omega arith) }
+returns-3 c = λ h. record { writes = λ s l. let w = c.before.before.put-accumulator in acc_write l h _ w.new.1.0 w.ensures (omega arith) }
 
 pub put-accumulator-spec : {M : Type 1} → statement M
 put-accumulator-spec =

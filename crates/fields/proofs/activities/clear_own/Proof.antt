@@ -1,7 +1,7 @@
 -- 192 bytes.
 use native.Mathlib.Omega.{arith}
 use Rattle.fields.proofs.Stands.{lent_length}
-use Rattle.fields.proofs.Own.{clear-write}
+use Rattle.fields.proofs.Own.{clear_write}
 use borrow.Author.Rules.{rules}
 use Rattle.fields.proofs.activities.clear_own.Statement.{statement}
 use Rattle.fields.proofs.activities.clear_own.Tie as tie
@@ -13,7 +13,7 @@ returns-2 : tie.Need-returns-2
 returns-2 c = record { writes = λ s l j. absurd (let z : ⊥ = omega arith in z) }
 
 returns-3 : tie.Need-returns-3
-returns-3 c = record { writes = λ s l j. let w = c.before.before.put-zeros in clear-write l j w.new.0 w.ensures }
+returns-3 c = record { writes = λ s l j. let w = c.before.before.put-zeros in clear_write l j w.new.0 w.ensures }
 
 pub clear-own-spec : {M : Type 1} → statement M
 clear-own-spec =

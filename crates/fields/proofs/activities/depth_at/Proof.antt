@@ -2,8 +2,8 @@
 use native.Mathlib.Omega.{arith}
 use mathlib.Core.Path.{◌∙◌}
 use Rattle.rules.specs.State.{act}
-use Rattle.fields.proofs.Stands.{own-number}
-use Rattle.fields.proofs.Own.{depth-there}
+use Rattle.fields.proofs.Stands.{own_number}
+use Rattle.fields.proofs.Own.{depth_there}
 use borrow.Author.Rules.{rules}
 use Rattle.fields.proofs.activities.depth_at.Statement.{statement}
 use Rattle.fields.proofs.activities.depth_at.Tie as tie
@@ -12,7 +12,7 @@ returns : tie.Need-returns
 returns c = record { reads = λ s l j. absurd (let z : ⊥ = omega arith in z) }
 
 returns-2 : tie.Need-returns-2
-returns-2 c = record { reads = λ s l j. own-number l j 7 1 c.get1.ensures (omega arith) (omega arith) ∙ depth-there (act s _) }
+returns-2 c = record { reads = λ s l j. own_number l j 7 1 c.get1.ensures (omega arith) (omega arith) ∙ depth_there (act s _) }
 
 pub depth-at-spec : {M : Type 1} → statement M
 depth-at-spec =

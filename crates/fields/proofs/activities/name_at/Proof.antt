@@ -1,12 +1,12 @@
 -- One byte.
 use native.Mathlib.Omega.{arith}
-use Rattle.fields.proofs.Own.{name-read}
+use Rattle.fields.proofs.Own.{name_read}
 use borrow.Author.Rules.{rules}
 use Rattle.fields.proofs.activities.name_at.Statement.{statement}
 use Rattle.fields.proofs.activities.name_at.Tie as tie
 
 returns-3 : tie.Need-returns-3
-returns-3 c = λ h. record { reads = λ s l j. name-read l j h c.get1.ensures (omega arith) }
+returns-3 c = λ h. record { reads = λ s l j. name_read l j h c.get1.ensures (omega arith) }
 
 pub name-at-spec : {M : Type 1} → statement M
 name-at-spec =

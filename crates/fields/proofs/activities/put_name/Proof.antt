@@ -1,6 +1,6 @@
 -- One byte.
 use native.Mathlib.Omega.{arith}
-use Rattle.fields.proofs.Own.{name-write}
+use Rattle.fields.proofs.Own.{name_write}
 use borrow.Author.Rules.{rules}
 use Rattle.fields.proofs.activities.put_name.Statement.{statement}
 use Rattle.fields.proofs.activities.put_name.Tie as tie
@@ -12,7 +12,7 @@ returns-2 : tie.Need-returns-2
 returns-2 c = λ h. record { writes = λ s l j. absurd (let z : ⊥ = omega arith in z) }
 
 returns-3 : tie.Need-returns-3
-returns-3 c = λ h. record { writes = λ s l j. name-write l j h c.before.before.put1.ensures (omega arith) (omega arith) }
+returns-3 c = λ h. record { writes = λ s l j. name_write l j h c.before.before.put1.ensures (omega arith) (omega arith) }
 
 pub put-name-spec : {M : Type 1} → statement M
 put-name-spec =

@@ -2,7 +2,7 @@
 use native.Mathlib.Omega.{arith}
 use Rattle.rules.specs.State.{act}
 use Rattle.fields.proofs.Stands.{mine, own_put}
-use Rattle.fields.proofs.Own.{fine-spawner, spawner-put}
+use Rattle.fields.proofs.Own.{fine_spawner, spawner_put}
 use borrow.Author.Rules.{rules}
 use Rattle.fields.proofs.activities.put_spawner.Statement.{statement}
 use Rattle.fields.proofs.activities.put_spawner.Tie as tie
@@ -11,7 +11,7 @@ returns : tie.Need-returns
 returns c = record { writes = λ s l j. absurd (let z : ⊥ = omega arith in z) }
 
 returns-2 : tie.Need-returns-2
-returns-2 c = record { writes = λ s l j. own_put l j 6 1 _ c.before.before.put1.ensures (omega arith) (omega arith) (spawner-put (act s _) _ (omega arith)) (fine-spawner (mine l j)) }
+returns-2 c = record { writes = λ s l j. own_put l j 6 1 _ c.before.before.put1.ensures (omega arith) (omega arith) (spawner_put (act s _) _ (omega arith)) (fine_spawner (mine l j)) }
 
 pub put-spawner-spec : {M : Type 1} → statement M
 put-spawner-spec =

@@ -2,8 +2,8 @@
 use native.Mathlib.Omega.{arith}
 use mathlib.Core.Path.{◌∙◌}
 use Rattle.rules.specs.State.{act}
-use Rattle.fields.proofs.Stands.{mine, fine-status, own_put}
-use Rattle.fields.proofs.Own.{status-put}
+use Rattle.fields.proofs.Stands.{mine, fine_status, own_put}
+use Rattle.fields.proofs.Own.{status_put}
 use borrow.Author.Rules.{rules}
 use Rattle.fields.proofs.activities.put_status.Statement.{statement}
 use Rattle.fields.proofs.activities.put_status.Tie as tie
@@ -18,8 +18,8 @@ returns-2 c = record {
       let y = c.before.before.before.before in
       let x = y.before.before in
       own_put l j 4 2 _ c.before.before.put2.ensures (omega arith) (omega arith)
-      (status-put (act s _) _ (x.wide.ensures.0 ∙ x.before.status-byte.ensures) (y.wide2.ensures.0 ∙ y.before.fault-byte.ensures) x.wide.ensures.1 y.wide2.ensures.1)
-      (fine-status (mine l j));
+      (status_put (act s _) _ (x.wide.ensures.0 ∙ x.before.status-byte.ensures) (y.wide2.ensures.0 ∙ y.before.fault-byte.ensures) x.wide.ensures.1 y.wide2.ensures.1)
+      (fine_status (mine l j));
 }
 
 pub put-status-spec : {M : Type 1} → statement M

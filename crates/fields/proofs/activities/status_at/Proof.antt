@@ -2,8 +2,8 @@
 use native.Mathlib.Omega.{arith}
 use mathlib.Core.Path.{◌∙◌}
 use Rattle.rules.specs.State.{act}
-use Rattle.fields.proofs.Stands.{own-number}
-use Rattle.fields.proofs.Own.{status-byte, fault-byte, status-of-bytes}
+use Rattle.fields.proofs.Stands.{own_number}
+use Rattle.fields.proofs.Own.{status_byte_lem, fault_byte_lem, status_of_bytes}
 use borrow.Author.Rules.{rules}
 use Rattle.fields.proofs.activities.status_at.Statement.{statement}
 use Rattle.fields.proofs.activities.status_at.Tie as tie
@@ -15,9 +15,9 @@ returns-2 : tie.Need-returns-2
 returns-2 c = record {
   reads =
       λ s l j.
-      let x = own-number l j 4 1 c.before.before.get1.ensures (omega arith) (omega arith) ∙ status-byte (act s _) in
-      let y = own-number l j 5 1 c.before.get12.ensures (omega arith) (omega arith) ∙ fault-byte (act s _) in
-      c.status-of.ensures ∙ status-of-bytes (act s _).status x y;
+      let x = own_number l j 4 1 c.before.before.get1.ensures (omega arith) (omega arith) ∙ status_byte_lem (act s _) in
+      let y = own_number l j 5 1 c.before.get12.ensures (omega arith) (omega arith) ∙ fault_byte_lem (act s _) in
+      c.status-of.ensures ∙ status_of_bytes (act s _).status x y;
 }
 
 pub status-at-spec : {M : Type 1} → statement M

@@ -1,5 +1,5 @@
 -- The number of four bytes.
-use Rattle.fields.proofs.Within.{get-part}
+use Rattle.fields.proofs.Within.{get_part}
 use borrow.Author.Rules.{rules}
 use Rattle.fields.proofs.bytes.get4.Statement.{statement}
 use Rattle.fields.proofs.bytes.get4.Tie as tie
@@ -11,7 +11,7 @@ returns-2 : tie.Need-returns-2
 returns-2 c = search rules
 
 returns-3 : tie.Need-returns-3
-returns-3 c = record { gets = λ n j. let a = c.before.before.before.before.before.args in get-part a.state.now a.at 4 c.number.ensures }
+returns-3 c = record { gets = λ n j. let a = c.before.before.before.before.before.args in get_part a.state.now a.at 4 c.number.ensures }
 
 pub get4-spec : {M : Type 1} → statement M
 get4-spec =

@@ -1,7 +1,7 @@
 -- The bytes of a number.
 use Prim.Native.Nat.{◌-◌}
 use native.Mathlib.Omega.{arith}
-use Rattle.fields.proofs.Within.{put-part}
+use Rattle.fields.proofs.Within.{put_part}
 use borrow.Author.Rules.{rules}
 use Rattle.fields.proofs.bytes.put2.Statement.{statement}
 use Rattle.fields.proofs.bytes.put2.Tie as tie
@@ -13,7 +13,7 @@ returns-2 : tie.Need-returns-2
 returns-2 c = record { puts = λ n j. absurd (let z : ⊥ = omega arith in z) }
 
 returns-3 : tie.Need-returns-3
-returns-3 c = record { puts = λ n j. let a = c.before.before.before.before.before.before.before.args in put-part a.v a.state.now a.at 2 _ c.before.before.put-number.ensures (omega (arith, n, j)) }
+returns-3 c = record { puts = λ n j. let a = c.before.before.before.before.before.before.before.args in put_part a.v a.state.now a.at 2 _ c.before.before.put-number.ensures (omega (arith, n, j)) }
 
 pub put2-spec : {M : Type 1} → statement M
 put2-spec =

@@ -1,11 +1,11 @@
 -- One byte.
-use Rattle.fields.proofs.Head.{clocks-there}
+use Rattle.fields.proofs.Head.{clocks_there}
 use borrow.Author.Rules.{rules}
 use Rattle.fields.proofs.counts.clocks_of.Statement.{statement}
 use Rattle.fields.proofs.counts.clocks_of.Tie as tie
 
 returns : tie.Need-returns
-returns c = record { reads = λ s l. clocks-there l c.get1.ensures }
+returns c = record { reads = λ s l. clocks_there l c.get1.ensures }
 
 pub clocks-of-spec : {M : Type 1} → statement M
 clocks-of-spec =

@@ -1,12 +1,12 @@
 -- One byte.
 use native.Mathlib.Omega.{arith}
-use Rattle.fields.proofs.Head.{activities-put}
+use Rattle.fields.proofs.Head.{activities_put}
 use borrow.Author.Rules.{rules}
 use Rattle.fields.proofs.counts.put_activities.Statement.{statement}
 use Rattle.fields.proofs.counts.put_activities.Tie as tie
 
 returns : tie.Need-returns
-returns c = record { writes = λ s l. activities-put l c.before.before.put1.ensures (omega arith) }
+returns c = record { writes = λ s l. activities_put l c.before.before.put1.ensures (omega arith) }
 
 pub put-activities-spec : {M : Type 1} → statement M
 put-activities-spec =

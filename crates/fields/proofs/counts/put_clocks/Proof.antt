@@ -1,12 +1,12 @@
 -- One byte.
 use native.Mathlib.Omega.{arith}
-use Rattle.fields.proofs.Head.{clocks-put}
+use Rattle.fields.proofs.Head.{clocks_put}
 use borrow.Author.Rules.{rules}
 use Rattle.fields.proofs.counts.put_clocks.Statement.{statement}
 use Rattle.fields.proofs.counts.put_clocks.Tie as tie
 
 returns : tie.Need-returns
-returns c = record { writes = λ s l. clocks-put l c.before.before.put1.ensures (omega arith) }
+returns c = record { writes = λ s l. clocks_put l c.before.before.put1.ensures (omega arith) }
 
 pub put-clocks-spec : {M : Type 1} → statement M
 put-clocks-spec =

@@ -2,9 +2,9 @@
 use native.Mathlib.Omega.{arith}
 use mathlib.Core.Path.{ap, ◌∙◌}
 use Rattle.rules.specs.State.{act, frame}
-use Rattle.encoding.specs.Decode.{frameAt}
+use Rattle.encoding.specs.Decode.{frame_at}
 use Rattle.fields.proofs.Stands.{mine, lent_length}
-use Rattle.fields.proofs.Own.{frame-part, frame-there}
+use Rattle.fields.proofs.Own.{frame_part, frame_there}
 use borrow.Author.Rules.{rules}
 use Rattle.fields.proofs.frames.frame_at.Statement.{statement}
 use Rattle.fields.proofs.frames.frame_at.Tie as tie
@@ -19,7 +19,7 @@ returns-3 : tie.Need-returns-3
 returns-3 c = λ h. record { reads = λ s l j. absurd (let z : ⊥ = omega arith in z) }
 
 returns-4 : tie.Need-returns-4
-returns-4 c = λ h. record { reads = λ s l j. c.frame_at.ensures ∙ ap frameAt (frame-part l j h) ∙ frame-there (frame (act s _) _) ((mine l j).offsets _) }
+returns-4 c = λ h. record { reads = λ s l j. c.frame_at.ensures ∙ ap frame_at (frame_part l j h) ∙ frame_there (frame (act s _) _) ((mine l j).offsets _) }
 
 pub frame-at-spec : {M : Type 1} → statement M
 frame-at-spec =

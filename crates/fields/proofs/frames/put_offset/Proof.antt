@@ -1,6 +1,6 @@
 -- Two bytes.
 use native.Mathlib.Omega.{arith}
-use Rattle.fields.proofs.Own.{offset-write}
+use Rattle.fields.proofs.Own.{offset_write}
 use borrow.Author.Rules.{rules}
 use Rattle.fields.proofs.frames.put_offset.Statement.{statement}
 use Rattle.fields.proofs.frames.put_offset.Tie as tie
@@ -12,7 +12,7 @@ returns-2 : tie.Need-returns-2
 returns-2 c = λ h. record { writes = λ s l j. absurd (let z : ⊥ = omega arith in z) }
 
 returns-3 : tie.Need-returns-3
-returns-3 c = λ h. record { writes = λ s l j. offset-write l j h c.before.before.put2.ensures (omega arith) (omega arith) }
+returns-3 c = λ h. record { writes = λ s l j. offset_write l j h c.before.before.put2.ensures (omega arith) (omega arith) }
 
 pub put-offset-spec : {M : Type 1} → statement M
 put-offset-spec =

@@ -2,10 +2,10 @@
 use native.Mathlib.Omega.{arith}
 use mathlib.Core.Path.{ap, ◌∙◌}
 use Rattle.rules.specs.State.{act, hold}
-use Rattle.encoding.specs.Decode.{registrationOf}
-use Rattle.encoding.proofs.EnumLaws.{registration-there}
+use Rattle.encoding.specs.Decode.{registration_of}
+use Rattle.encoding.proofs.EnumLaws.{registration_there}
 use Rattle.fields.proofs.Stands.{mine}
-use Rattle.fields.proofs.Own.{hold-number, phase-there, clock-there, registration-byte}
+use Rattle.fields.proofs.Own.{hold_number, phase_there, clock_there, registration_byte}
 use borrow.Author.Rules.{rules}
 use Rattle.fields.proofs.holds.hold_at.Statement.{statement}
 use Rattle.fields.proofs.holds.hold_at.Tie as tie
@@ -21,9 +21,9 @@ returns-3 c = λ h. record {
   reads =
       λ s l j.
       let g = hold (act s _) _ in
-      let x = hold-number l j h 0 2 c.before.before.before.get2.ensures (omega arith) (omega arith) ∙ phase-there g ((mine l j).phases _) in
-      let y = hold-number l j h 4 1 c.before.before.get1.ensures (omega arith) (omega arith) ∙ clock-there g in
-      let z = c.registration-of.ensures ∙ ap registrationOf (hold-number l j h 5 1 c.before.get12.ensures (omega arith) (omega arith) ∙ registration-byte g) ∙ registration-there g.registration in
+      let x = hold_number l j h 0 2 c.before.before.before.get2.ensures (omega arith) (omega arith) ∙ phase_there g ((mine l j).phases _) in
+      let y = hold_number l j h 4 1 c.before.before.get1.ensures (omega arith) (omega arith) ∙ clock_there g in
+      let z = c.registration-of.ensures ∙ ap registration_of (hold_number l j h 5 1 c.before.get12.ensures (omega arith) (omega arith) ∙ registration_byte g) ∙ registration_there g.registration in
       rw (x, y, z);
 }
 

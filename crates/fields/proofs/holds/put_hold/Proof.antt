@@ -1,7 +1,7 @@
 -- Eight bytes.
 use native.Mathlib.Omega.{arith}
 use Rattle.fields.proofs.Stands.{lent_length}
-use Rattle.fields.proofs.Own.{hold-write}
+use Rattle.fields.proofs.Own.{hold_write}
 use borrow.Author.Rules.{rules}
 use Rattle.fields.proofs.holds.put_hold.Statement.{statement}
 use Rattle.fields.proofs.holds.put_hold.Tie as tie
@@ -16,7 +16,7 @@ returns-3 : tie.Need-returns-3
 returns-3 c = λ h. record { writes = λ s l j. absurd (let z : ⊥ = omega arith in z) }
 
 returns-4 : tie.Need-returns-4
-returns-4 c = λ h. record { writes = λ s l j. let w = c.before.before.put-hold in hold-write l j h _ w.new.1.0 w.ensures (omega arith) }
+returns-4 c = λ h. record { writes = λ s l j. let w = c.before.before.put-hold in hold_write l j h _ w.new.1.0 w.ensures (omega arith) }
 
 pub put-hold-spec : {M : Type 1} → statement M
 put-hold-spec =

@@ -2,7 +2,7 @@
 use mathlib.Core.Path.{sym, ◌∙◌}
 use borrow.Author.Rules.{rules}
 use borrow.Author.Tests.{eq-eqb, ne_eqb}
-use Rattle.host.specs.Lists.{sizeAfter}
+use Rattle.host.specs.Lists.{size_after}
 use Rattle.host.proofs.lists.stepmachine_build.Statement.{statement}
 use Rattle.host.proofs.lists.stepmachine_build.Tie as tie
 use Rattle.host.proofs.lists.stepmachine_build.Reads as reads
@@ -10,13 +10,13 @@ use Rattle.host.proofs.lists.stepmachine_build.Lts as lts
 use Rattle.builder.proofs.build.Reads as build-reads
 
 returns : tie.Need-returns
-unfolding sizeAfter
+unfolding size_after
 returns c =
     let e = c.before.before.before.before.build.ensures in
     (e.0, (e.1.1.0, rw (eq-eqb _ 0 (sym e.0 ∙ c.if1.true)) e.1.0))
 
 returns-2 : tie.Need-returns-2
-unfolding sizeAfter
+unfolding size_after
 returns-2 c =
     let e = c.before.before.before.before.build.ensures in
     (e.0, (e.1.1.0, rw (ne_eqb _ 0 (λ z. c.if1.false (e.0 ∙ z)))))

@@ -1,11 +1,11 @@
 -- The blank and the number, one after the other, or nothing.
-use Rattle.lines.proofs.Putting.{awaited-put, awaited-none}
+use Rattle.lines.proofs.Putting.{awaited_put, awaited_none}
 use borrow.Author.Rules.{rules}
 use Rattle.lines.proofs.line.put_awaited.Statement.{statement}
 use Rattle.lines.proofs.line.put_awaited.Tie as tie
 
 returns : tie.Need-returns
-returns c = awaited-none _ c.if1.true
+returns c = awaited_none _ c.if1.true
 
 put-byte-requires : tie.Need-put-byte-requires
 put-byte-requires c κs = search rules
@@ -19,7 +19,7 @@ same_length c = search rules
 returns-2 : tie.Need-returns-2
 returns-2 c =
     let blank = c.before.before.before.before.before.before in
-    awaited-put _ blank.before.before.if1.false blank.put_byte.ensures c.before.before.put-number.ensures
+    awaited_put _ blank.before.before.if1.false blank.put_byte.ensures c.before.before.put-number.ensures
 
 pub put-awaited-spec : {M : Type 1} → statement M
 put-awaited-spec =

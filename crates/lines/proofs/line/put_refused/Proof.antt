@@ -1,5 +1,5 @@
 -- The two parts, one after the other.
-use Rattle.lines.specs.Text.{refusedOf}
+use Rattle.lines.specs.Text.{refused_of}
 use Rattle.lines.proofs.Putting.{both}
 use borrow.Author.Rules.{rules}
 use Rattle.lines.proofs.line.put_refused.Statement.{statement}
@@ -18,7 +18,7 @@ same_length : tie.Need-same-length
 same_length c = search rules
 
 returns : tie.Need-returns
-unfolding refusedOf
+unfolding refused_of
 returns c =
     both c.before.before.before.before.before.before.put-named.ensures c.before.before.put_byte.ensures
 

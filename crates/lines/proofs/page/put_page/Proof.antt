@@ -5,7 +5,7 @@ use borrow.Author.Rules.{rules}
 use borrow.Author.Tests.{ltb-true, ltb-false, leb-true, leb-false}
 use lib.ListN.{length, get_or}
 use Rattle.lines.proofs.Putting.{kept}
-use Rattle.lines.proofs.Paging.{Under, under-start, under_more, under-end, steps-le}
+use Rattle.lines.proofs.Paging.{Under, under_start, under_more, under_end, steps_le}
 use Rattle.lines.proofs.page.put_page.Statement.{statement}
 use Rattle.lines.proofs.page.put_page.Tie as tie
 
@@ -21,7 +21,7 @@ taken-by-requires c κs = tt
 loop-holds : tie.Need-loop-init invariant-loop decreases-loop
 loop-holds c =
     let a = c.before.before.before.before.before.args in
-    under-start a.out.now a.order.now a.answers.now a.awaited.now a.line c.taken-by.ensures
+    under_start a.out.now a.order.now a.answers.now a.awaited.now a.line c.taken-by.ensures
 
 sub-if3 : tie.Need-overflow-sub-if3 invariant-loop decreases-loop
 sub-if3 c = let at = c.before.before.before in omega (arith, kept at.loop.invariant.put, at.loop.invariant.fits)
@@ -45,7 +45,7 @@ add-taken : tie.Need-overflow-add-taken invariant-loop decreases-loop
 add-taken c =
     let at = c.before.before.before.before.before.before.before.before in
     let answers = at.before.before.before.before.before.before.args.answers.now in
-    omega (arith, at.loop.invariant.fewer, steps-le (get_or answers at.loop.next 0), c.steps_of.ensures)
+    omega (arith, at.loop.invariant.fewer, steps_le (get_or answers at.loop.next 0), c.steps_of.ensures)
 
 put-line-requires : tie.Need-put-line-requires invariant-loop decreases-loop
 put-line-requires c κs = tt
@@ -73,7 +73,7 @@ returns : tie.Need-returns invariant-loop decreases-loop
 returns c =
     let at = c.before.before.before.before in
     let s = at.before.before.before.before.before.before.args in
-    under-end s.out.now s.order.now s.answers.now s.awaited.now s.line at.loop.invariant
+    under_end s.out.now s.order.now s.answers.now s.awaited.now s.line at.loop.invariant
     (λ o a w. omega (arith, leb-false, kept at.loop.invariant.put))
 
 same-length-2 : tie.Need-same-length-2 invariant-loop decreases-loop
@@ -83,7 +83,7 @@ returns-2 : tie.Need-returns-2 invariant-loop decreases-loop
 returns-2 c =
     let at = c.before.before.before in
     let s = at.before.before.before.before.before.before.args in
-    under-end s.out.now s.order.now s.answers.now s.awaited.now s.line at.loop.invariant (λ o a w. absurd (omega (arith, ltb-false)))
+    under_end s.out.now s.order.now s.answers.now s.awaited.now s.line at.loop.invariant (λ o a w. absurd (omega (arith, ltb-false)))
 
 same-length-3 : tie.Need-same-length-3 invariant-loop decreases-loop
 same-length-3 c = kept c.before.before.loop.invariant.put
@@ -92,7 +92,7 @@ returns-3 : tie.Need-returns-3 invariant-loop decreases-loop
 returns-3 c =
     let at = c.before.before in
     let s = at.before.before.before.before.before.before.args in
-    under-end s.out.now s.order.now s.answers.now s.awaited.now s.line at.loop.invariant (λ o a w. absurd (omega (arith, ltb-false)))
+    under_end s.out.now s.order.now s.answers.now s.awaited.now s.line at.loop.invariant (λ o a w. absurd (omega (arith, ltb-false)))
 
 same-length-4 : tie.Need-same-length-4 invariant-loop decreases-loop
 same-length-4 c = kept c.before.loop.invariant.put
@@ -101,7 +101,7 @@ returns-4 : tie.Need-returns-4 invariant-loop decreases-loop
 returns-4 c =
     let at = c.before in
     let s = at.before.before.before.before.before.before.args in
-    under-end s.out.now s.order.now s.answers.now s.awaited.now s.line at.loop.invariant (λ o a w. absurd (omega (arith, ltb-false)))
+    under_end s.out.now s.order.now s.answers.now s.awaited.now s.line at.loop.invariant (λ o a w. absurd (omega (arith, ltb-false)))
 
 pub put-page-spec : {M : Type 1} → statement M
 put-page-spec =

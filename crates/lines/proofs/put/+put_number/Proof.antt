@@ -1,7 +1,7 @@
 -- The number falls with each digit that is left to the call.
 use native.Mathlib.Omega.{arith}
 use borrow.Author.Rules.{rules}
-use Rattle.lines.proofs.Putting.{both, kept, one-digit, digit-more}
+use Rattle.lines.proofs.Putting.{both, kept, one_digit, digit_more}
 use Prim.Native.Nat.{ℕ, ◌<◌}
 use borrow.Fn.Kinds.{In}
 use borrow.Fn.PlainCycle.{Measures, is, falls, and}
@@ -64,7 +64,7 @@ put-number-returns : (t : ℕ) → put-number-lts.Need-returns (
 ) (put-number-at t) put-number.Post
 put-number-returns t c =
     let d = c.before.before.before in
-    one-digit d.before.before.if1.true d.last-digit.ensures c.before.before.put_byte.ensures
+    one_digit d.before.before.if1.true d.last-digit.ensures c.before.before.put_byte.ensures
 
 put-number-put-number-requires : (t : ℕ) → put-number-lts.Need-put-number-requires (
   last-digit-reads.Asked,
@@ -119,7 +119,7 @@ put-number-returns-2 : (t : ℕ) → put-number-lts.Need-returns-2 (
 put-number-returns-2 t c =
     let d = c.before.before.before in
     let p = d.before.before.before.before in
-    digit-more p.before.before.if1.false d.last-digit2.ensures p.put-number.ensures c.before.before.put-byte2.ensures
+    digit_more p.before.before.if1.false d.last-digit2.ensures p.put-number.ensures c.before.before.put-byte2.ensures
 
 pub +put-number-spec : {M : Type 1} → statement M
 +put-number-spec = close μ-put-number λ t. put-number-lts.spec (

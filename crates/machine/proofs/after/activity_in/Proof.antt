@@ -1,6 +1,6 @@
 -- Its 208 bytes.
 use mathlib.Core.Path.{◌∙◌}
-use Rattle.machine.proofs.Kept.{entry-long, entry-encodes, entry-is}
+use Rattle.machine.proofs.Kept.{entry_long, entry_encodes, entry_is}
 use borrow.Author.Rules.{rules}
 use Rattle.machine.proofs.after.activity_in.Statement.{statement}
 use Rattle.machine.proofs.after.activity_in.Tie as tie
@@ -8,10 +8,10 @@ use Rattle.machine.proofs.after.activity_in.Tie as tie
 activity-at-requires : tie.Need-activity-at-requires
 activity-at-requires c κs =
     let s = c.before.before in
-    (entry-long s.args.bytes.now s.requires.0 s.requires.1.0 s.args.i s.requires.1.1, entry-encodes s.args.bytes.now s.requires.0 s.requires.1.0 s.args.i s.requires.1.1)
+    (entry_long s.args.bytes.now s.requires.0 s.requires.1.0 s.args.i s.requires.1.1, entry_encodes s.args.bytes.now s.requires.0 s.requires.1.0 s.args.i s.requires.1.1)
 
 returns : tie.Need-returns
-returns c = let s = c.before.before.before in c.activity-at.ensures ∙ entry-is s.args.bytes.now s.requires.0 s.requires.1.0 s.args.i s.requires.1.1
+returns c = let s = c.before.before.before in c.activity-at.ensures ∙ entry_is s.args.bytes.now s.requires.0 s.requires.1.0 s.args.i s.requires.1.1
 
 pub activity-in-spec : {M : Type 1} → statement M
 activity-in-spec =

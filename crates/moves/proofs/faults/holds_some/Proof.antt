@@ -2,26 +2,26 @@
 use Rattle.std.proofs.Common.{◌-◌, ◌≤◌, false, sym, refl, ap, ◌∙◌, arith, rules}
 use Rattle.rules.specs.declared.state.Hold.{Hold}
 use Rattle.rules.specs.declared.state.Activity.{Activity}
-use Rattle.rules.specs.Search.{someBelow}
+use Rattle.rules.specs.Search.{some_below}
 use Rattle.rules.specs.State.{act}
 use Rattle.places.proofs.Searches.{found, passed, none}
-use Rattle.rules.specs.Clocks.{holds, is_held, holdsSome}
+use Rattle.rules.specs.Clocks.{holds, is_held, holds_some}
 use Rattle.fields.specs.Lent.{ReadsAct}
 use Rattle.moves.proofs.faults.holds_some.Statement.{statement}
 use Rattle.moves.proofs.faults.holds_some.Tie as tie
 
 abbrev invariant-loop : tie.invariant-loop
-invariant-loop state i k₀ k = (k ≤ 8) × ReadsAct (λ (a : Activity). someBelow k (holds a)) state i false
+invariant-loop state i k₀ k = (k ≤ 8) × ReadsAct (λ (a : Activity). some_below k (holds a)) state i false
 
 abbrev decreases-loop : tie.decreases-loop
 decreases-loop state i k₀ k = 8 - k
 
 loop-holds : tie.Need-loop-init invariant-loop decreases-loop
-unfolding someBelow
+unfolding some_below
 loop-holds c = (omega arith, record { reads = λ s l j. refl })
 
 returns : tie.Need-returns invariant-loop decreases-loop
-unfolding holdsSome
+unfolding holds_some
 returns c =
     let h = c.before.before in
     let q = h.before in
@@ -34,7 +34,7 @@ loop-again c =
     (omega arith, record { reads = λ s l j. sym (passed (holds (act s _)) q.before.loop.k (sym (q.before.loop.invariant.1.reads s l j)) (c.before.is_held_lem.ensures ∙ ap (λ (x : Hold). is_held x.registration) ((h.hold_at.ensures q.loop-test.true).reads s l j)) c.if1.false) })
 
 returns-2 : tie.Need-returns-2 invariant-loop decreases-loop
-unfolding holdsSome
+unfolding holds_some
 returns-2 c =
     let q = c.before in
     record { reads = λ s l j. none (holds (act s _)) q.loop.k 8 q.loop.invariant.0 c.loop-test.false (sym (q.loop.invariant.1.reads s l j)) }

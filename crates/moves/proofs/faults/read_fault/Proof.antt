@@ -1,13 +1,13 @@
 -- Each way is the definition's at the tests that led to it.
 use Rattle.std.proofs.Common.{cond, sym, ap, ◌∙◌, rules}
-use Rattle.moves.proofs.Reading.{unbound-name, others, own_name}
+use Rattle.moves.proofs.Reading.{unbound_name, others, own_name}
 use Rattle.moves.proofs.faults.read_fault.Statement.{statement}
 use Rattle.moves.proofs.faults.read_fault.Tie as tie
 
 returns : tie.Need-returns
 returns c = λ h.
     let w = c.before in
-    record { reads = λ s l j m. unbound-name l j m (w.before.name-at.ensures h) w.wide.ensures.0 c.if1.true }
+    record { reads = λ s l j m. unbound_name l j m (w.before.name-at.ensures h) w.wide.ensures.0 c.if1.true }
 
 returns-2 : tie.Need-returns-2
 returns-2 c = λ h.

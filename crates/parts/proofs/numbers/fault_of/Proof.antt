@@ -2,12 +2,12 @@
 use Rattle.std.proofs.Common.{◌≡◌, ℕ, zero, suc, refl}
 use native.Mathlib.Numerals.{unary_clauses}
 use Rattle.rules.specs.declared.state.Fault.TheVariants.{F1}
-use Rattle.rules.specs.State.{faultOf}
+use Rattle.rules.specs.State.{fault_of}
 use Rattle.parts.proofs.numbers.fault_of.Statement.{statement}
 use Rattle.parts.proofs.numbers.fault_of.Tie as tie
 
 -- No number from 2 to 8: the first fault.
-rest : (n : ℕ) → (n ≡ 2 → ⊥) → (n ≡ 3 → ⊥) → (n ≡ 4 → ⊥) → (n ≡ 5 → ⊥) → (n ≡ 6 → ⊥) → (n ≡ 7 → ⊥) → (n ≡ 8 → ⊥) → F1 ≡ faultOf n
+rest : (n : ℕ) → (n ≡ 2 → ⊥) → (n ≡ 3 → ⊥) → (n ≡ 4 → ⊥) → (n ≡ 5 → ⊥) → (n ≡ 6 → ⊥) → (n ≡ 7 → ⊥) → (n ≡ 8 → ⊥) → F1 ≡ fault_of n
 rest zero h2 h3 h4 h5 h6 h7 h8 = refl
 rest (suc zero) h2 h3 h4 h5 h6 h7 h8 = refl
 rest (suc (suc zero)) h2 h3 h4 h5 h6 h7 h8 = absurd (h2 refl)

@@ -1,12 +1,12 @@
 -- Each number gives its operator.
 use Rattle.std.proofs.Common.{◌≡◌, ℕ, zero, suc, refl, rules}
 use Rattle.rules.specs.declared.state.Operator.TheVariants.{Sum}
-use Rattle.rules.specs.State.{operatorOf}
+use Rattle.rules.specs.State.{operator_of}
 use Rattle.parts.proofs.numbers.operator_of.Statement.{statement}
 use Rattle.parts.proofs.numbers.operator_of.Tie as tie
 
 -- Neither 1 nor 2: sum.
-rest : (n : ℕ) → (n ≡ 1 → ⊥) → (n ≡ 2 → ⊥) → Sum ≡ operatorOf n
+rest : (n : ℕ) → (n ≡ 1 → ⊥) → (n ≡ 2 → ⊥) → Sum ≡ operator_of n
 rest zero h1 h2 = refl
 rest (suc zero) h1 h2 = absurd (h1 refl)
 rest (suc (suc zero)) h1 h2 = absurd (h2 refl)

@@ -1,14 +1,14 @@
 -- Each status gives its answer, which fits a byte.
 use Rattle.std.proofs.Common.{◌≡◌, ℕ, ◌+◌, arith, w8, Fits, rules}
 use Rattle.rules.specs.declared.state.Fault.{Fault}
-use Rattle.rules.specs.State.{faultNumber}
-use Rattle.rules.proofs.FaultNumbers.{fault-range}
+use Rattle.rules.specs.State.{fault_number}
+use Rattle.rules.proofs.FaultNumbers.{fault_range}
 use Rattle.parts.proofs.numbers.status_answer.Statement.{statement}
 use Rattle.parts.proofs.numbers.status_answer.Tie as tie
 
 -- A fault's answer is a byte.
-fits : (f : Fault) {r : ℕ} → r ≡ faultNumber f → Fits w8 (100 + r)
-fits f e = let h = (fault-range f).1 in record { fits = omega arith }
+fits : (f : Fault) {r : ℕ} → r ≡ fault_number f → Fits w8 (100 + r)
+fits f e = let h = (fault_range f).1 in record { fits = omega arith }
 
 add-result : tie.Need-overflow-add-result
 add-result c = fits c.before.before.status.given.0.0 c.fault-number.ensures

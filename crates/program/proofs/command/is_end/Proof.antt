@@ -2,13 +2,13 @@
 use mathlib.Core.Path.{ap}
 use lib.Dec.{eqb}
 use Prim.Native.Nat.{ℕ}
-use Rattle.program.specs.Command.{isEnd}
+use Rattle.program.specs.Command.{is_end}
 use borrow.Author.Rules.{rules}
 use Rattle.program.proofs.command.is_end.Statement.{statement}
 use Rattle.program.proofs.command.is_end.Tie as tie
 
 returns : tie.Need-returns
-unfolding isEnd
+unfolding is_end
 returns c = ap (λ (op : ℕ). eqb op 0) c.opcode.ensures.0
 
 pub is-end-spec : {M : Type 1} → statement M

@@ -1,6 +1,6 @@
 -- The other commands name none.
 use Rattle.program.specs.Command.{rows, row_at, row_of, names}
-use Rattle.program.proofs.RowLaws.{names-none}
+use Rattle.program.proofs.RowLaws.{names_none}
 use borrow.Author.Rules.{rules}
 use Rattle.program.proofs.command.names.Statement.{statement}
 use Rattle.program.proofs.command.names.Tie as tie
@@ -22,7 +22,7 @@ unfolding names row_of row_at rows
 returns-4 c = search rules
 
 returns-5 : tie.Need-returns-5
-returns-5 c = (names-none c.before.args.command c.match.keys5).0
+returns-5 c = (names_none c.before.args.command c.match.keys5).0
 
 pub names-spec : {M : Type 1} → statement M
 names-spec = tie.close (tie.spec (λ enum_told. search rules) (λ enum-told-2. search rules) (λ enum-told-3. search rules) (λ enum-told-4. search rules) returns returns-2 returns-3 returns-4 returns-5)

@@ -5,7 +5,7 @@ use native.Mathlib.Omega.{arith}
 use native.Mathlib.Decide.{dec_le}
 use Rattle.program.specs.Command.{rows, row_at, width_at}
 use Rattle.program.specs.Inner.Coding.{commands}
-use Rattle.program.proofs.RowLaws.{none_left, width-alone}
+use Rattle.program.proofs.RowLaws.{none_left, width_alone}
 use Rattle.program.proofs.command.width_at.Statement.{statement}
 use Rattle.program.proofs.command.width_at.Tie as tie
 
@@ -82,7 +82,7 @@ unfolding rows row_at width_at
 returns-18 c = rw c.match.keys18
 
 returns-19 : tie.Need-returns-19
-returns-19 c = sym (width-alone c.before.args.op (by (dec_le commands c.before.args.op)))
+returns-19 c = sym (width_alone c.before.args.op (by (dec_le commands c.before.args.op)))
   where
     by : Dec (commands ≤ c.before.args.op) → commands ≤ c.before.args.op
     by (yes h) = h

@@ -12,8 +12,8 @@ use lib.ListN.{length, get_or, length-set}
 use Rattle.program.specs.Command.{width_at, named, times, held}
 use Rattle.program.specs.Inner.Counting.{Counts, Counting, Filled}
 use Rattle.program.specs.declared.command.Command.{Command}
-use Rattle.program.proofs.RangeLaws.{tail-part}
-use Rattle.program.proofs.WalkLaws.{Walked, zeros-small, asked-few, asked-inside, asked-starts, asked-named, walked_start, walked-done, walked-small, walked-stride, walked-name, walked-own, added-named, added-alone, noted-set, noted-at, counts-small}
+use Rattle.program.proofs.RangeLaws.{tail_part}
+use Rattle.program.proofs.WalkLaws.{Walked, zeros_small, asked_few, asked_inside, asked_starts, asked_named, walked_start, walked_done, walked_small, walked_stride, walked_name, walked_own, added_named, added_alone, noted_set, noted_at, counts_small}
 use Rattle.program.proofs.count.count.Reads as count
 use Rattle.program.proofs.count.count.Kinds as count-kinds
 use Rattle.program.proofs.count.+count.Lts-count as count-lts
@@ -65,7 +65,7 @@ module _ (t : ℕ) where
   less-here c =
       let l = c.before.before.before in
       let k = c.before.before in
-      ((walked-stride (asked l.before) (walk l) k.known.ensures (size-here c)).0, walked-small (asked l.before) (walk l) k.known.ensures)
+      ((walked_stride (asked l.before) (walk l) k.known.ensures (size-here c)).0, walked_small (asked l.before) (walk l) k.known.ensures)
 
   -- The body that a command runs lies after this one.
   named_here : (c : count-lts.After-named (calls t) (count_at t) count.Post count-Inv-loop count-μ-loop) → ((start c.before.before.before.before.before.before.before.before).args.body < c.named.result) × (c.named.result < get_or (start c.before.before.before.before.before.before.before.before).args.table.now 0 0)
@@ -73,7 +73,7 @@ module _ (t : ℕ) where
       let i = c.before.before.before.before.before.before in
       let l = i.before in
       let runs : 0 < times i.known.result = rw c.before.before.times.ensures.0 at c.before.if1.true in
-      rw c.named.ensures.0 (walked-name (asked l.before) (walk l) i.known.ensures runs)
+      rw c.named.ensures.0 (walked_name (asked l.before) (walk l) i.known.ensures runs)
 
   -- Its row is filled.
   filled-here : (c : count-lts.Joined2 (calls t) (count_at t) count.Post count-Inv-loop count-μ-loop) → Filled (start c.before.before.before.before.before.before.before.before.before.before).args.table.now c.before.before.named.result c.if2.notes × (length c.if2.notes ≡ 16)
@@ -82,7 +82,7 @@ module _ (t : ℕ) where
       let l = n.before.before.before.before.before.before.before.before in
       ⊎_elim {C = Filled (start l).args.table.now n.named.result c.if2.notes × (length c.if2.notes ≡ 16)}
       (λ v. (rw v.6 v.4.ensures, rw v.6 (search rules)))
-      (λ v. (rw v.1 (noted-at l.loop.invariant.1.noted v.0.left), rw v.1 l.loop.invariant.1.long))
+      (λ v. (rw v.1 (noted_at l.loop.invariant.1.noted v.0.left), rw v.1 l.loop.invariant.1.long))
       c.if2.branch
 
   counted-here : (c : count-lts.Joined2 (calls t) (count_at t) count.Post count-Inv-loop count-μ-loop) → Counts (start c.before.before.before.before.before.before.before.before.before.before).args.table.now (named c.before.before.before.before.before.before.before.before.known.result) (get_or c.if2.notes c.before.before.named.result [])
@@ -98,7 +98,7 @@ count-add-at : (t : ℕ) → count-lts.Need-overflow-add-at (calls t) (count_at 
 count-add-at t c = let h = less-here t c in let s = c.stride.ensures.1 in omega arith
 
 few-here : (t : ℕ) (c : count-lts.After-named (calls t) (count_at t) count.Post count-Inv-loop count-μ-loop) → c.named.result < 16
-few-here t c = let h = (named_here t c).1 in let p = asked-few (asked t c.before.before.before.before.before.before.before.before) in omega arith
+few-here t c = let h = (named_here t c).1 in let p = asked_few (asked t c.before.before.before.before.before.before.before.before) in omega arith
 
 count-mul-row : (t : ℕ) → count-lts.Need-overflow-mul-row (calls t) (count_at t) count.Post count-Inv-loop count-μ-loop
 count-mul-row t c = let h = few-here t c in omega arith
@@ -110,20 +110,20 @@ count-mul-start : (t : ℕ) → count-lts.Need-overflow-mul-start (calls t) (cou
 count-mul-start t c = let h = few-here t c.before.before in omega arith
 
 count-shared-slice-read-start : (t : ℕ) → count-lts.Need-shared-slice-read-start (calls t) (count_at t) count.Post count-Inv-loop count-μ-loop
-count-shared-slice-read-start t c = let h = few-here t c.before.before.before in let l = asked-starts (asked t c.before.before.before.before.before.before.before.before.before.before.before) in omega arith
+count-shared-slice-read-start t c = let h = few-here t c.before.before.before in let l = asked_starts (asked t c.before.before.before.before.before.before.before.before.before.before.before) in omega arith
 
 count-sub-count : (t : ℕ) → count-lts.Need-overflow-sub-count (calls t) (count_at t) count.Post count-Inv-loop count-μ-loop
-count-sub-count t c = asked-inside (asked t c.before.before.before.before.before.before.before.before.before.before.before) c.before.before.before.named.result (named_here t c.before.before.before).1
+count-sub-count t c = asked_inside (asked t c.before.before.before.before.before.before.before.before.before.before.before) c.before.before.before.named.result (named_here t c.before.before.before).1
 
 count-part-count-start : (t : ℕ) → count-lts.Need-slice-bounds-count-start (calls t) (count_at t) count.Post count-Inv-loop count-μ-loop
-count-part-count-start t c = asked-inside (asked t c.before.before.before.before.before.before.before.before.before.before.before) c.before.before.before.named.result (named_here t c.before.before.before).1
+count-part-count-start t c = asked_inside (asked t c.before.before.before.before.before.before.before.before.before.before.before) c.before.before.before.named.result (named_here t c.before.before.before).1
 
 count-count-requires : (t : ℕ) → count-lts.Need-count-requires (calls t) (count_at t) count.Post count-Inv-loop count-μ-loop
 count-count-requires t c κs =
     let n = c.before.before.before.before.before in
     let l = n.before.before.before.before.before.before.before.before in (
       (let h = (named_here t n).0 in let f = few-here t n in let e = (start t l).requires.0 in omega arith),
-      asked-named (asked t l) (named_here t n).1 (tail-part (start t l).args.table.now (get_or (start t l).args.starts.now n.named.result 0)) l.loop.invariant.1.noted l.loop.invariant.1.long,
+      asked_named (asked t l) (named_here t n).1 (tail_part (start t l).args.table.now (get_or (start t l).args.starts.now n.named.result 0)) l.loop.invariant.1.noted l.loop.invariant.1.long,
     )
 
 count-mul-added : (t : ℕ) → count-lts.Need-overflow-mul-added (calls t) (count_at t) count.Post count-Inv-loop count-μ-loop
@@ -137,7 +137,7 @@ count-added-requires t c κs =
     let n = c.before.before.before in
     let k = n.before.before.before.before.before.before in
     let l = k.before.before in
-    (l.loop.invariant.1.small, (counts-small (start t l).args.table.now (named k.known.result) _ (counted-here t c.before), n.before.before.times.ensures.1))
+    (l.loop.invariant.1.small, (counts_small (start t l).args.table.now (named k.known.result) _ (counted-here t c.before), n.before.before.times.ensures.1))
 
 count-loop-less : (t : ℕ) → count-lts.Need-loop-smaller (calls t) (count_at t) count.Post count-Inv-loop count-μ-loop
 count-loop-less t c = let h = less-here t c.before.before.before.before.before.before.before.before in omega arith
@@ -151,12 +151,12 @@ count-loop-again t c =
     let e = n.before.before.before in (
       l.loop.invariant.0,
       rw e.is-end.ensures
-          (walked-own (asked t l) (walk t k.before) k.known.ensures (walked-stride (asked t l) (walk t k.before) k.known.ensures (size-here t e.before)).1 (filled-here t j).1 (filled-here t j).0.noted
-          (λ i lt. added-named (start t l).args.table.now l.loop.sums k.known.result n.before.before.times.result _ c.added.result c.added.ensures i lt n.before.before.times.ensures.0 (counted-here t j))),
+          (walked_own (asked t l) (walk t k.before) k.known.ensures (walked_stride (asked t l) (walk t k.before) k.known.ensures (size-here t e.before)).1 (filled-here t j).1 (filled-here t j).0.noted
+          (λ i lt. added_named (start t l).args.table.now l.loop.sums k.known.result n.before.before.times.result _ c.added.result c.added.ensures i lt n.before.before.times.ensures.0 (counted-here t j))),
     )
 
 count-added-requires-2 : (t : ℕ) → count-lts.Need-added-requires-2 (calls t) (count_at t) count.Post count-Inv-loop count-μ-loop
-count-added-requires-2 t c κs = (c.before.before.before.before.before.before.before.loop.invariant.1.small, (zeros-small 4, search rules))
+count-added-requires-2 t c κs = (c.before.before.before.before.before.before.before.loop.invariant.1.small, (zeros_small 4, search rules))
 
 count-loop-less-2 : (t : ℕ) → count-lts.Need-loop-smaller-2 (calls t) (count_at t) count.Post count-Inv-loop count-μ-loop
 count-loop-less-2 t c = let h = less-here t c.before.before.before.before in omega arith
@@ -169,15 +169,15 @@ count-loop-again-2 t c =
     let none : times k.known.result ≡ 0 = (let f = c.before.before.times.ensures.0 in let z = c.before.if1.false in omega arith) in (
       l.loop.invariant.0,
       rw e.is-end.ensures
-          (walked-own (asked t l) (walk t k.before) k.known.ensures (walked-stride (asked t l) (walk t k.before) k.known.ensures (size-here t e.before)).1 l.loop.invariant.1.long l.loop.invariant.1.noted
-          (λ i lt. added-alone (start t l).args.table.now l.loop.sums k.known.result 0 _ c.added2.result c.added2.ensures i lt refl none)),
+          (walked_own (asked t l) (walk t k.before) k.known.ensures (walked_stride (asked t l) (walk t k.before) k.known.ensures (size-here t e.before)).1 l.loop.invariant.1.long l.loop.invariant.1.noted
+          (λ i lt. added_alone (start t l).args.table.now l.loop.sums k.known.result 0 _ c.added2.result c.added2.ensures i lt refl none)),
     )
 
 count-mul-sums : (t : ℕ) → count-lts.Need-overflow-mul-sums (calls t) (count_at t) count.Post count-Inv-loop count-μ-loop
-count-mul-sums t c = let p = asked t c.before in let f = asked-few p in let o = p.one_of in omega arith
+count-mul-sums t c = let p = asked t c.before in let f = asked_few p in let o = p.one_of in omega arith
 
 count-slice-set-from-sums : (t : ℕ) → count-lts.Need-slice-set-from-sums (calls t) (count_at t) count.Post count-Inv-loop count-μ-loop
-count-slice-set-from-sums t c = let p = asked t c.before in let f = asked-few p in let o = p.one_of in let l = c.before.loop.invariant.1.long in omega arith
+count-slice-set-from-sums t c = let p = asked t c.before in let f = asked_few p in let o = p.one_of in let l = c.before.loop.invariant.1.long in omega arith
 
 count-same-length : (t : ℕ) → count-lts.Need-same-length (calls t) (count_at t) count.Post count-Inv-loop count-μ-loop
 count-same-length t c = simp length-set (c.before.loop.invariant.1.long ∙ sym c.before.loop.invariant.0)
@@ -186,11 +186,11 @@ count-returns : (t : ℕ) → count-lts.Need-returns (calls t) (count_at t) coun
 count-returns t c =
     let l = c.before.loop in
     let p = asked t c.before in
-    let f = asked-few p in
+    let f = asked_few p in
     let o = p.one_of in
     let m = l.invariant.1.long in
-    noted-set l.notes (start t c.before).args.body l.sums (omega arith) l.invariant.1.noted
-    (walked-done (subst (Walked (start t c.before).args.table.now (start t c.before).args.body l.notes l.sums l.at) c.loop-test.false l.invariant.1))
+    noted_set l.notes (start t c.before).args.body l.sums (omega arith) l.invariant.1.noted
+    (walked_done (subst (Walked (start t c.before).args.table.now (start t c.before).args.body l.notes l.sums l.at) c.loop-test.false l.invariant.1))
 
 pub +count-spec : {M : Type 1} → statement M
 +count-spec = close μ-count λ t. count-lts.spec (calls t) (count_at t) count.Post count-Inv-loop count-μ-loop (count-loop-holds t) (λ known-requires κs. search rules)

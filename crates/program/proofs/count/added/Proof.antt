@@ -5,7 +5,7 @@ use native.Mathlib.Omega.{arith}
 use borrow.Author.Rules.{rules}
 use lib.ListN.{length, get_or, length-set}
 use Rattle.program.specs.Inner.Counting.{cap, Small}
-use Rattle.program.proofs.TotalLaws.{product, Upto, upto-none, upto-more, upto_all}
+use Rattle.program.proofs.TotalLaws.{product, Upto, upto_none, upto_more, upto_all}
 use Rattle.program.proofs.count.added.Statement.{statement}
 use Rattle.program.proofs.count.added.Tie as tie
 
@@ -30,7 +30,7 @@ small-here c = record {
 }
 
 loop-holds : tie.Need-loop-init invariant-loop decreases-loop
-loop-holds c = (search rules, upto-none c.args.t1 c.args.command c.args.runs c.args.t4 c.args.t1)
+loop-holds c = (search rules, upto_none c.args.t1 c.args.command c.args.runs c.args.t4 c.args.t1)
 
 add-capped : tie.Need-overflow-add-capped invariant-loop decreases-loop
 add-capped c = let s = small-here c in omega arith
@@ -44,7 +44,7 @@ add-capped-2 c = let s = small-here c in omega arith
 loop-again : tie.Need-loop-preserved invariant-loop decreases-loop
 loop-again c = (
   simp length-set c.before.before.before.loop.invariant.0,
-  upto-more c.before.before.before.before.args.t1 c.before.before.before.before.args.command c.before.before.before.before.args.runs c.before.before.before.before.args.t4 c.before.before.before.loop.k c.before.before.before.loop.out c.capped.result (omega arith) c.before.before.before.loop.invariant.1
+  upto_more c.before.before.before.before.args.t1 c.before.before.before.before.args.command c.before.before.before.before.args.runs c.before.before.before.before.args.t4 c.before.before.before.loop.k c.before.before.before.loop.out c.capped.result (omega arith) c.before.before.before.loop.invariant.1
       (c.capped.ensures ∙ ap (λ (x : ℕ). cap (get_or c.before.before.before.before.args.t1 c.before.before.before.loop.k 0 + x + c.before.before.before.before.args.runs * get_or c.before.before.before.before.args.t4 c.before.before.before.loop.k 0)) c.before.own.ensures.0),
 )
 

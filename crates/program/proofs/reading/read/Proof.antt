@@ -4,8 +4,8 @@ use mathlib.Core.List.{List}
 use Prim.Native.Nat.{ℕ, ◌-◌, ◌≤◌}
 use lib.ListN.{length, get_or, take, drop}
 use Rattle.program.specs.Command.{row_at, width_at, word}
-use Rattle.program.specs.Reading.{allInside}
-use Rattle.program.proofs.RangeLaws.{tail-part, read-empty, read-unknown, read-cut, read-room, read-outside, read_whole}
+use Rattle.program.specs.Reading.{all_inside}
+use Rattle.program.proofs.RangeLaws.{tail_part, read_empty, read_unknown, read_cut, read_room, read_outside, read_whole}
 use borrow.Author.Rules.{rules}
 use Rattle.program.proofs.reading.read.Statement.{statement}
 use Rattle.program.proofs.reading.read.Tie as tie
@@ -28,10 +28,10 @@ abbrev at_wide : tie.After-operands-fit → tie.After-wide
 at_wide c = (at_width c).before.before.before
 
 rest-here : (c : tie.After-operands-fit) → take (length (code (at_wide c)) - 1) (drop 1 (code (at_wide c))) ≡ drop 1 (code (at_wide c))
-rest-here c = tail-part (code (at_wide c)) 1
+rest-here c = tail_part (code (at_wide c)) 1
 
 room-here : (c : tie.After-operands-fit) → length (row_at (at_wide c).wide.result).operands ≤ length (drop 1 (code (at_wide c)))
-room-here c = read-room (code (at_wide c)) (at_wide c).wide.result (some (at_wide c)) (at_wide c).wide.ensures.0 (at_width c).width-at.result (at_width c).before.before.if2.false (wide-here (at_width c)) c.before.before.before.before.if3.false
+room-here c = read_room (code (at_wide c)) (at_wide c).wide.result (some (at_wide c)) (at_wide c).wide.ensures.0 (at_width c).width-at.result (at_width c).before.before.if2.false (wide-here (at_width c)) c.before.before.before.before.if3.false
 
 first-here : (c : tie.After-operands-fit) → get_or (drop 1 (code (at_wide c))) 0 0 ≡ c.before.before.byte_at.result
 first-here c = sym (c.before.before.byte_at.ensures ∙ ap (λ (s : List ℕ). get_or s 0 0) (rest-here c))
@@ -39,33 +39,33 @@ first-here c = sym (c.before.before.byte_at.ensures ∙ ap (λ (s : List ℕ). g
 second-here : (c : tie.After-operands-fit) → get_or (drop 1 (code (at_wide c))) 1 0 ≡ c.before.byte-at2.result
 second-here c = sym (c.before.byte-at2.ensures ∙ ap (λ (s : List ℕ). get_or s 1 0) (rest-here c))
 
-fit-here : (c : tie.After-operands-fit) → allInside (row_at (at_wide c).wide.result).operands (drop 1 (code (at_wide c))) ≡ c.operands-fit.result
-fit-here c = sym (c.operands-fit.ensures (drop 1 (code (at_wide c))) (first-here c) (second-here c) (room-here c))
+fit_here : (c : tie.After-operands-fit) → all_inside (row_at (at_wide c).wide.result).operands (drop 1 (code (at_wide c))) ≡ c.operands-fit.result
+fit_here c = sym (c.operands-fit.ensures (drop 1 (code (at_wide c))) (first-here c) (second-here c) (room-here c))
 
 returns : tie.Need-returns
-returns c = read-empty c.before.before.args.code.now c.if1.true
+returns c = read_empty c.before.before.args.code.now c.if1.true
 
 returns-2 : tie.Need-returns-2
-returns-2 c = read-unknown (code c.before) c.before.wide.result (some c.before) c.before.wide.ensures.0 c.if2.true
+returns-2 c = read_unknown (code c.before) c.before.wide.result (some c.before) c.before.wide.ensures.0 c.if2.true
 
 returns-3 : tie.Need-returns-3
 returns-3 c =
     let e = c.before.before.before in
-    read-cut (code e.before) e.before.wide.result (some e.before) e.before.wide.ensures.0 c.before.width-at.result e.if2.false (wide-here c.before) c.if3.true
+    read_cut (code e.before) e.before.wide.result (some e.before) e.before.wide.ensures.0 c.before.width-at.result e.if2.false (wide-here c.before) c.if3.true
 
 returns-4 : tie.Need-returns-4
 returns-4 c =
     let o = c.before.before.before in
     let w = at_wide o in
     read_whole (code w) w.wide.result (some w) w.wide.ensures.0 (at_width o).width-at.result (at_width o).before.before.if2.false (wide-here (at_width o)) o.before.before.before.before.if3.false
-    (fit-here o ∙ c.before.before.if4.true)
+    (fit_here o ∙ c.before.before.if4.true)
     (c.command-of.ensures (drop 1 (code w)) (first-here o) (second-here o) (λ put. sym (c.before.value_of_lem.ensures put ∙ ap word (rest-here o))))
 
 returns-5 : tie.Need-returns-5
 returns-5 c =
     let o = c.before in
     let w = at_wide o in
-    read-outside (code w) w.wide.result (some w) w.wide.ensures.0 (at_width o).width-at.result (at_width o).before.before.if2.false (wide-here (at_width o)) o.before.before.before.before.if3.false (fit-here o ∙ c.if4.false)
+    read_outside (code w) w.wide.result (some w) w.wide.ensures.0 (at_width o).width-at.result (at_width o).before.before.if2.false (wide-here (at_width o)) o.before.before.before.before.if3.false (fit_here o ∙ c.if4.false)
 
 pub read_spec : {M : Type 1} → statement M
 read_spec =

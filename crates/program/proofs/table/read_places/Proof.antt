@@ -6,8 +6,8 @@ use native.Mathlib.Omega.{arith}
 use Rattle.program.specs.Scan.{scan, layout_of}
 use Rattle.program.specs.declared.scan.Layout.{Layout}
 use Rattle.program.specs.declared.scan.Scanned.{Scanned}
-use Rattle.program.proofs.TableLaws.{scanned-number, scanned-layout, table-unread, table-over, table_counted}
-use Rattle.program.proofs.WalkLaws.{counts-small}
+use Rattle.program.proofs.TableLaws.{scanned_number, scanned_layout, table_unread, table_over, table_counted}
+use Rattle.program.proofs.WalkLaws.{counts_small}
 use Rattle.program.specs.Inner.Counting.{Small}
 use borrow.Author.Rules.{rules}
 use Rattle.program.proofs.table.read_places.Statement.{statement}
@@ -18,13 +18,13 @@ abbrev table : tie.After-scan → List ℕ
 table c = c.before.before.before.args.table.now
 
 number-here : (c : tie.After-scan) → scan (table c) ≡ c.scan.result.number
-number-here c = sym (ap (λ (s : Scanned). s.number) c.scan.ensures.0 ∙ scanned-number (table c))
+number-here c = sym (ap (λ (s : Scanned). s.number) c.scan.ensures.0 ∙ scanned_number (table c))
 
 read_here : (c : tie.Else1) → scan (table c.before) ≡ 0
 read_here c = number-here c.before ∙ c.if1.false
 
 layout-here : (c : tie.Else1) → c.before.scan.result.layout ≡ layout_of (table c.before)
-layout-here c = ap (λ (s : Scanned). s.layout) c.before.scan.ensures.0 ∙ scanned-layout (table c.before) (read_here c)
+layout-here c = ap (λ (s : Scanned). s.layout) c.before.scan.ensures.0 ∙ scanned_layout (table c.before) (read_here c)
 
 abbrev read : tie.After-counts → tie.Else1
 read c = c.before.before.before.before.before
@@ -32,7 +32,7 @@ read c = c.before.before.before.before.before
 returns : tie.Need-returns
 returns c =
     let s = c.before.before in
-    (c.refused-with.ensures ∙ table-unread (table s) (number-here s) c.before.if1.true, s.scan.ensures.1)
+    (c.refused-with.ensures ∙ table_unread (table s) (number-here s) c.before.if1.true, s.scan.ensures.1)
 
 counts-requires : tie.Need-counts-requires
 counts-requires c κs = let e = c.before.before.before.before in (read_here e, ap (λ (l : Layout). l.starts) (layout-here e))
@@ -42,11 +42,11 @@ returns-2 c =
     let o = c.before.before in
     let n = o.before in
     let s = (read n).before in
-    (c.refused-with2.ensures ∙ table-over (table s) (read_here (read n)) n.counts.result n.counts.ensures (sym o.over.ensures) c.before.if2.true, s.scan.ensures.1)
+    (c.refused-with2.ensures ∙ table_over (table s) (read_here (read n)) n.counts.result n.counts.ensures (sym o.over.ensures) c.before.if2.true, s.scan.ensures.1)
 
 add-t20 : tie.Need-overflow-add-t20
 unfolding Small
-add-t20 c = let n = c.before.before in let s = counts-small (table (read n).before) 0 n.counts.result n.counts.ensures 1 (omega arith) in omega arith
+add-t20 c = let n = c.before.before in let s = counts_small (table (read n).before) 0 n.counts.result n.counts.ensures 1 (omega arith) in omega arith
 
 returns-3 : tie.Need-returns-3
 returns-3 c =

@@ -2,7 +2,7 @@
 use Prim.Native.Nat.{◌-◌}
 use native.Mathlib.Omega.{arith}
 use lib.ListN.{length}
-use Rattle.turns.proofs.Following.{Going, going_start, going-stored, going-past, going_end}
+use Rattle.turns.proofs.Following.{Going, going_start, going_stored, going_past, going_end}
 use borrow.Author.Rules.{rules}
 use Rattle.turns.proofs.follow.follow.Statement.{statement}
 use Rattle.turns.proofs.follow.follow.Tie as tie
@@ -29,14 +29,14 @@ loop-again c =
     let t = c.before.before.before in
     let w = t.before.before in
     let q = w.before.before in
-    going-stored q.before.loop.invariant q.loop-test.true w.wide.ensures.0 t.turn.ensures t.turn.auto.1.1.1.0 c.if1.true
+    going_stored q.before.loop.invariant q.loop-test.true w.wide.ensures.0 t.turn.ensures t.turn.auto.1.1.1.0 c.if1.true
 
 loop-again-2 : tie.Need-loop-preserved-2 invariant-loop decreases-loop
 loop-again-2 c =
     let t = c.before.before.before in
     let w = t.before.before in
     let q = w.before.before in
-    going-past q.before.loop.invariant q.loop-test.true w.wide.ensures.0 t.turn.ensures t.turn.auto.1.1.1.0 c.if1.false
+    going_past q.before.loop.invariant q.loop-test.true w.wide.ensures.0 t.turn.ensures t.turn.auto.1.1.1.0 c.if1.false
 
 same_length : tie.Need-same-length invariant-loop decreases-loop
 same_length c = c.before.loop.invariant.sized

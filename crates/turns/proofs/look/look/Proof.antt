@@ -1,13 +1,13 @@
 -- Numbers 14 to 16 in their order.
 use native.Mathlib.Omega.{arith}
 use mathlib.Core.Path.{sym, ◌∙◌}
-use Rattle.turns.proofs.Looking.{not-spawned, has_ended, some, waiting, moving}
+use Rattle.turns.proofs.Looking.{not_spawned, has_ended, some, waiting, moving}
 use borrow.Author.Rules.{rules}
 use Rattle.turns.proofs.look.look.Statement.{statement}
 use Rattle.turns.proofs.look.look.Tie as tie
 
 returns : tie.Need-returns
-returns c = record { sees = λ k s l w. not-spawned l c.before.before.activities-of.ensures c.before.if1.true c.alone.ensures }
+returns c = record { sees = λ k s l w. not_spawned l c.before.before.activities-of.ensures c.before.if1.true c.alone.ensures }
 
 returns-2 : tie.Need-returns-2
 returns-2 c =

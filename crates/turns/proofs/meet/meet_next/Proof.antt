@@ -1,19 +1,19 @@
 -- It waits, or its function carries it out.
 use mathlib.Core.Path.{refl}
-use Rattle.waits.proofs.Waitings.{awaits-next}
-use Rattle.turns.proofs.Carrying.{kept, carried-simply}
+use Rattle.waits.proofs.Waitings.{awaits_next}
+use Rattle.turns.proofs.Carrying.{kept, carried_simply}
 use borrow.Author.Rules.{rules}
 use Rattle.turns.proofs.meet.meet_next.Statement.{statement}
 use Rattle.turns.proofs.meet.meet_next.Tie as tie
 
 returns : tie.Need-returns
-returns c = record { carries = λ t starts. kept (awaits-next refl c.before.next-awaits.ensures) c.if1.true }
+returns c = record { carries = λ t starts. kept (awaits_next refl c.before.next-awaits.ensures) c.if1.true }
 
 returns-2 : tie.Need-returns-2
 returns-2 c =
     let f = c.before.before in
     let e = f.before.before in
-    record { carries = λ t starts. carried-simply (awaits-next refl e.before.next-awaits.ensures) e.if1.false (refl, refl) f.next.ensures }
+    record { carries = λ t starts. carried_simply (awaits_next refl e.before.next-awaits.ensures) e.if1.false (refl, refl) f.next.ensures }
 
 pub meet-next-spec : {M : Type 1} → statement M
 meet-next-spec =

@@ -1,19 +1,19 @@
 -- It waits, or its function carries it out.
 use mathlib.Core.Path.{refl}
-use Rattle.waits.proofs.Waitings.{awaits-read}
-use Rattle.turns.proofs.Carrying.{kept, carried-simply}
+use Rattle.waits.proofs.Waitings.{awaits_read}
+use Rattle.turns.proofs.Carrying.{kept, carried_simply}
 use borrow.Author.Rules.{rules}
 use Rattle.turns.proofs.meet.meet_read.Statement.{statement}
 use Rattle.turns.proofs.meet.meet_read.Tie as tie
 
 returns : tie.Need-returns
-returns c = λ h. record { carries = λ t starts. kept (awaits-read refl c.before.own-awaits.ensures refl) c.if1.true }
+returns c = λ h. record { carries = λ t starts. kept (awaits_read refl c.before.own-awaits.ensures refl) c.if1.true }
 
 returns-2 : tie.Need-returns-2
 returns-2 c = λ h.
     let f = c.before.before in
     let e = f.before.before in
-    record { carries = λ t starts. carried-simply (awaits-read refl e.before.own-awaits.ensures refl) e.if1.false (refl, refl) (f.read.ensures h) }
+    record { carries = λ t starts. carried_simply (awaits_read refl e.before.own-awaits.ensures refl) e.if1.false (refl, refl) (f.read.ensures h) }
 
 pub meet-read-spec : {M : Type 1} → statement M
 meet-read-spec =

@@ -2,7 +2,7 @@
 use Prim.Native.Nat.{◌-◌, ◌≤◌, ◌<◌}
 use native.Mathlib.Omega.{arith}
 use mathlib.Core.Logic.{⊎_elim}
-use Rattle.turns.proofs.Readying.{Below, ready-none, ready-set, ready-left, ready-all, ready-many}
+use Rattle.turns.proofs.Readying.{Below, ready_none, ready_set_lem, ready_left, ready_all, ready_many}
 use borrow.Author.Rules.{rules}
 use Rattle.turns.proofs.ready.ready_set.Statement.{statement}
 use Rattle.turns.proofs.ready.ready_set.Tie as tie
@@ -14,10 +14,10 @@ abbrev decreases-loop : tie.decreases-loop
 decreases-loop table starts state made set₀ i₀ set i = made - i
 
 returns : tie.Need-returns invariant-loop decreases-loop
-returns c = ready-many c.before.activities-of.ensures c.if1.true
+returns c = ready_many c.before.activities-of.ensures c.if1.true
 
 loop-holds : tie.Need-loop-init invariant-loop decreases-loop
-loop-holds c = (omega arith, ready-none)
+loop-holds c = (omega arith, ready_none)
 
 shl-set : tie.Need-overflow-shl-set invariant-loop decreases-loop
 shl-set c = omega arith
@@ -35,14 +35,14 @@ loop-again c =
     let g = f.can-step.ensures in
     let low : k.loop.i < 64 = omega arith in (
       omega arith,
-      ⊎_elim (λ v. ready-set k.loop.invariant.1 low g v.1 v.0.taken) (λ v. ready-left k.loop.invariant.1 low g v.1 v.0.left) c.if2.branch,
+      ⊎_elim (λ v. ready_set_lem k.loop.invariant.1 low g v.1 v.0.taken) (λ v. ready_left k.loop.invariant.1 low g v.1 v.0.left) c.if2.branch,
     )
 
 returns-2 : tie.Need-returns-2 invariant-loop decreases-loop
 returns-2 c =
     let k = c.before in
     let m = k.before in
-    ready-all k.loop.invariant.1 m.before.activities-of.ensures m.if1.false (omega arith)
+    ready_all k.loop.invariant.1 m.before.activities-of.ensures m.if1.false (omega arith)
 
 pub ready-set-spec : {M : Type 1} → statement M
 ready-set-spec =

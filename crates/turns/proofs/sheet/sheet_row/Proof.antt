@@ -1,7 +1,7 @@
 -- Each turn enters one hold: the row is that of the names from n on.
 use native.Mathlib.Omega.{arith}
 use mathlib.Core.Path.{sym, ◌∙◌}
-use Rattle.turns.proofs.Sheets.{Entered, entered-none, entered-store, entered-high, entered-free, entered_all}
+use Rattle.turns.proofs.Sheets.{Entered, entered_none, entered_store, entered_high, entered_free, entered_all}
 use borrow.Author.Rules.{rules}
 use Rattle.turns.proofs.sheet.sheet_row.Statement.{statement}
 use Rattle.turns.proofs.sheet.sheet_row.Tie as tie
@@ -13,7 +13,7 @@ abbrev decreases-loop : tie.decreases-loop
 decreases-loop state i row₀ n₀ row n = n
 
 loop-holds : tie.Need-loop-init invariant-loop decreases-loop
-loop-holds c = entered-none
+loop-holds c = entered_none
 
 sub-n : tie.Need-overflow-sub-n invariant-loop decreases-loop
 sub-n c = omega arith
@@ -25,18 +25,18 @@ loop-again : tie.Need-loop-preserved invariant-loop decreases-loop
 loop-again c =
     let t = c.before.before in
     let h = t.before.before.before in
-    entered-store h.before.before.loop.invariant (omega arith) h.hold_at.ensures (sym t.before.is_held_lem.ensures ∙ t.if1.true) c.before.if2.true c.registration-number.ensures
+    entered_store h.before.before.loop.invariant (omega arith) h.hold_at.ensures (sym t.before.is_held_lem.ensures ∙ t.if1.true) c.before.if2.true c.registration-number.ensures
 
 loop-again-2 : tie.Need-loop-preserved-2 invariant-loop decreases-loop
 loop-again-2 c =
     let t = c.before in
     let h = t.before.before.before in
-    entered-high h.before.before.loop.invariant (omega arith) h.hold_at.ensures (sym t.before.is_held_lem.ensures ∙ t.if1.true) c.if2.false
+    entered_high h.before.before.loop.invariant (omega arith) h.hold_at.ensures (sym t.before.is_held_lem.ensures ∙ t.if1.true) c.if2.false
 
 loop-again-3 : tie.Need-loop-preserved-3 invariant-loop decreases-loop
 loop-again-3 c =
     let h = c.before.before.before in
-    entered-free h.before.before.loop.invariant (omega arith) h.hold_at.ensures (sym c.before.is_held_lem.ensures ∙ c.if1.false)
+    entered_free h.before.before.loop.invariant (omega arith) h.hold_at.ensures (sym c.before.is_held_lem.ensures ∙ c.if1.false)
 
 returns : tie.Need-returns invariant-loop decreases-loop
 returns c = entered_all c.before.loop.invariant (omega arith)

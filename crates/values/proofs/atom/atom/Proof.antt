@@ -1,7 +1,7 @@
 -- Number 17, the frame at the top, the commands, and on.
 use Rattle.std.proofs.Common.{sym, refl, ◌∙◌, arith, rules}
 use Rattle.moves.proofs.Standings.{few, some, over, spent}
-use Rattle.values.proofs.Atoms.{atom-done}
+use Rattle.values.proofs.Atoms.{atom_done}
 use Rattle.values.proofs.atom.atom.Statement.{statement}
 use Rattle.values.proofs.atom.atom.Tie as tie
 
@@ -22,7 +22,7 @@ returns-3 c =
     record {
       turns =
           λ k s l w.
-          atom-done k w l (sym e.if1.false ∙ e.before.is-spent.ensures.reads s l) d.depth-at.ensures f.frame_at.ensures a.touch-all.ensures v.wide.ensures.0 refl g.go_on.ensures;
+          atom_done k w l (sym e.if1.false ∙ e.before.is-spent.ensures.reads s l) d.depth-at.ensures f.frame_at.ensures a.touch-all.ensures v.wide.ensures.0 refl g.go_on.ensures;
     }
 
 pub atom-spec : {M : Type 1} → statement M

@@ -1,15 +1,15 @@
 -- The slice from the body's first command.
 use Rattle.std.proofs.Common.{arith, rules}
-use Rattle.places.proofs.Starts.{body-there, code-there}
+use Rattle.places.proofs.Starts.{body_there, code_there}
 use Rattle.values.proofs.Atoms.{in_table}
 use Rattle.values.proofs.atom.touch_all.Statement.{statement}
 use Rattle.values.proofs.atom.touch_all.Tie as tie
 
 returns : tie.Need-returns
-returns c = record { touches = λ k on s x l h. absurd (let z : ⊥ = omega (arith, body-there _ k on.placed, c.if1.true) in z) }
+returns c = record { touches = λ k on s x l h. absurd (let z : ⊥ = omega (arith, body_there _ k on.placed, c.if1.true) in z) }
 
 returns-2 : tie.Need-returns-2
-returns-2 c = record { touches = λ k on s x l h. absurd (let z : ⊥ = omega (arith, code-there _ k on.placed, c.if2.true) in z) }
+returns-2 c = record { touches = λ k on s x l h. absurd (let z : ⊥ = omega (arith, code_there _ k on.placed, c.if2.true) in z) }
 
 returns-3 : tie.Need-returns-3
 returns-3 c = in_table c.before.before.touch-each.ensures

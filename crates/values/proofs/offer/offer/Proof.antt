@@ -1,7 +1,7 @@
 -- F5, number 17, and the offer.
 use Rattle.std.proofs.Common.{sym, ◌∙◌, rules}
 use Rattle.moves.proofs.Standings.{over, spent}
-use Rattle.values.proofs.Offers.{unbound-fault, offered}
+use Rattle.values.proofs.Offers.{unbound_fault, offered}
 use Rattle.values.proofs.offer.offer.Statement.{statement}
 use Rattle.values.proofs.offer.offer.Tie as tie
 
@@ -9,7 +9,7 @@ returns : tie.Need-returns
 returns c = λ h.
     let f = c.before.before in
     let n = f.before.before in
-    record { turns = λ p s l w. f.fail.ensures.fails p s _ l w (unbound-fault l w h (n.before.name-at.ensures h) n.if1.true) }
+    record { turns = λ p s l w. f.fail.ensures.fails p s _ l w (unbound_fault l w h (n.before.name-at.ensures h) n.if1.true) }
 
 returns-2 : tie.Need-returns-2
 returns-2 c = λ h. record { turns = λ p s l w. over w l (spent w (sym c.if2.true ∙ c.before.is-spent.ensures.reads s l)) }

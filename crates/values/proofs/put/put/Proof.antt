@@ -1,7 +1,7 @@
 -- The register, and on.
 use Rattle.std.proofs.Common.{sym, ◌∙◌, rules}
 use Rattle.moves.proofs.Standings.{over, spent}
-use Rattle.values.proofs.Puts.{put-done}
+use Rattle.values.proofs.Puts.{put_done}
 use Rattle.values.proofs.put.put.Statement.{statement}
 use Rattle.values.proofs.put.put.Tie as tie
 
@@ -13,7 +13,7 @@ returns-2 c =
     let g = c.before.before in
     let f = g.before.before.before.before in
     let e = f.before.before in
-    record { turns = λ p s l w. put-done l w (sym e.if1.false ∙ e.before.is-spent.ensures.reads s l) f.put-register.ensures g.go_on.ensures }
+    record { turns = λ p s l w. put_done l w (sym e.if1.false ∙ e.before.is-spent.ensures.reads s l) f.put-register.ensures g.go_on.ensures }
 
 pub put_spec : {M : Type 1} → statement M
 put_spec =

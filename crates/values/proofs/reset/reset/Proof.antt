@@ -1,28 +1,28 @@
 -- The fault, number 17, and the register.
 use Rattle.std.proofs.Common.{sym, refl, ◌∙◌, rules}
-use Rattle.rules.specs.Faults.{faultFor}
-use Rattle.moves.proofs.Standings.{fault-here, over, spent}
-use Rattle.values.proofs.Owns.{unread, bound-here, was-reset}
+use Rattle.rules.specs.Faults.{fault_for}
+use Rattle.moves.proofs.Standings.{fault_here, over, spent}
+use Rattle.values.proofs.Owns.{unread, bound_here, was_reset}
 use Rattle.values.proofs.reset.reset.Statement.{statement}
 use Rattle.values.proofs.reset.reset.Tie as tie
 
 returns : tie.Need-returns
-unfolding faultFor
+unfolding fault_for
 returns c = λ h.
     let f = c.before.before in
     let o = f.before in
     let t = o.before.before in
-    record { turns = λ p s l w. unread l w h t.before.read-fault.ensures (fault-here w refl) t.if1.true o.fault-of.ensures f.fail.ensures }
+    record { turns = λ p s l w. unread l w h t.before.read-fault.ensures (fault_here w refl) t.if1.true o.fault-of.ensures f.fail.ensures }
 
 returns-2 : tie.Need-returns-2
 returns-2 c = λ h. record { turns = λ p s l w. over w l (spent w (sym c.if2.true ∙ c.before.is-spent.ensures.reads s l)) }
 
 returns-3 : tie.Need-returns-3
-unfolding faultFor
+unfolding fault_for
 returns-3 c = λ h.
     let n = c.before in
     let e = n.before.before.before.before.before in
-    record { turns = λ p s l w. absurd (bound-here l w h e.before.read-fault.ensures (fault-here w refl) e.if1.false n.name-at.ensures c.if3.true) }
+    record { turns = λ p s l w. absurd (bound_here l w h e.before.read-fault.ensures (fault_here w refl) e.if1.false n.name-at.ensures c.if3.true) }
 
 returns-4 : tie.Need-returns-4
 returns-4 c = λ h.
@@ -35,7 +35,7 @@ returns-4 c = λ h.
     record {
       turns =
           λ p s l w.
-          was-reset l h (sym m.if2.false ∙ m.before.is-spent.ensures.reads s l) e.before.read-fault.ensures e.if1.false n.name-at.ensures g.go_on.ensures w
+          was_reset l h (sym m.if2.false ∙ m.before.is-spent.ensures.reads s l) e.before.read-fault.ensures e.if1.false n.name-at.ensures g.go_on.ensures w
           a.register-at.ensures r.put-value.ensures;
     }
 

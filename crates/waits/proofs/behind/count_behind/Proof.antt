@@ -4,7 +4,7 @@ use native.Mathlib.Omega.{arith}
 use mathlib.Core.Path.{◌≡◌, refl}
 use Rattle.encoding.proofs.FieldLaws.{sized}
 use Rattle.fields.proofs.Stands.{lent_length}
-use Rattle.waits.proofs.Behinds.{NoneLate, none-late, none_more, BehindTo, behind-yet, behind-all, behind-ended, behind-none, behind-late}
+use Rattle.waits.proofs.Behinds.{NoneLate, none_late, none_more, BehindTo, behind_yet, behind_all, behind_ended, behind_none, behind_late}
 use borrow.Author.Rules.{rules}
 use Rattle.waits.proofs.behind.count_behind.Statement.{statement}
 use Rattle.waits.proofs.behind.count_behind.Tie as tie
@@ -30,10 +30,10 @@ returns-2 c = record {
 }
 
 holders-holds : tie.Need-holders-init invariant-loop decreases-loop invariant-holders decreases-holders
-holders-holds c = (omega arith, behind-yet)
+holders-holds c = (omega arith, behind_yet)
 
 loop-holds : tie.Need-loop-init invariant-loop decreases-loop invariant-holders decreases-holders
-loop-holds c = (refl, none-late)
+loop-holds c = (refl, none_late)
 
 -- none of its names is late
 holders-again : tie.Need-holders-preserved invariant-loop decreases-loop invariant-holders decreases-holders
@@ -43,7 +43,7 @@ holders-again c =
     let j = t.before in
     let own = j.before in (
       omega arith,
-      behind-none own.before.before.activities-of.ensures j.holders.invariant.1 own.own-places.ensures t.holders-test.true (omega arith) l.invariant.1 c.loop-test.false
+      behind_none own.before.before.activities-of.ensures j.holders.invariant.1 own.own-places.ensures t.holders-test.true (omega arith) l.invariant.1 c.loop-test.false
           l.invariant.0,
     )
 
@@ -72,7 +72,7 @@ holders-again-2 c =
     let j = t.before in
     let own = j.before in (
       omega arith,
-      behind-late own.before.before.activities-of.ensures j.holders.invariant.1 own.own-places.ensures t.holders-test.true (omega arith)
+      behind_late own.before.before.activities-of.ensures j.holders.invariant.1 own.own-places.ensures t.holders-test.true (omega arith)
           c.before.before.before.before.loop-test.true refl c.before.is-late.ensures c.if4.true l.loop.invariant.0,
     )
 
@@ -91,11 +91,11 @@ holders-again-3 c =
     let j = t.before in
     let own = j.before in (
       omega arith,
-      behind-ended own.before.before.activities-of.ensures j.holders.invariant.1 own.own-places.ensures t.holders-test.true c.before.is-unended.ensures c.if3.false,
+      behind_ended own.before.before.activities-of.ensures j.holders.invariant.1 own.own-places.ensures t.holders-test.true c.before.is-unended.ensures c.if3.false,
     )
 
 returns-3 : tie.Need-returns-3 invariant-loop decreases-loop invariant-holders decreases-holders
-returns-3 c = let j = c.before in behind-all j.before.before.before.activities-of.ensures j.holders.invariant.1 j.holders.invariant.0 c.holders-test.false
+returns-3 c = let j = c.before in behind_all j.before.before.before.activities-of.ensures j.holders.invariant.1 j.holders.invariant.0 c.holders-test.false
 
 pub count-behind-spec : {M : Type 1} → statement M
 count-behind-spec =

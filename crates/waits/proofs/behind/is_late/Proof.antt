@@ -1,5 +1,5 @@
 -- By the registration, the clock and the place.
-use Rattle.waits.proofs.Behinds.{late_free, late-past, late_by}
+use Rattle.waits.proofs.Behinds.{late_free, late_past, late_by}
 use borrow.Author.Rules.{rules}
 use Rattle.waits.proofs.behind.is_late.Statement.{statement}
 use Rattle.waits.proofs.behind.is_late.Tie as tie
@@ -11,7 +11,7 @@ returns-2 : tie.Need-returns-2
 returns-2 c =
     let w = c.before in
     let f = w.before.before.before in
-    late-past f.wide.ensures.0 w.wide2.ensures.0 f.before.before.before.before.requires.1 c.if2.true
+    late_past f.wide.ensures.0 w.wide2.ensures.0 f.before.before.before.before.requires.1 c.if2.true
 
 returns-3 : tie.Need-returns-3
 returns-3 c =

@@ -1,7 +1,7 @@
 -- Each turn enters one name.
 use Prim.Native.Nat.{◌-◌}
 use mathlib.Core.Path.{refl, sym, ◌∙◌}
-use Rattle.waits.proofs.Behinds.{OwnTo, own-none, own-all, own-free, own-high, own-store}
+use Rattle.waits.proofs.Behinds.{OwnTo, own_none, own_all, own_free, own_high, own_store}
 use borrow.Author.Rules.{rules}
 use Rattle.waits.proofs.behind.own_places.Statement.{statement}
 use Rattle.waits.proofs.behind.own_places.Tie as tie
@@ -13,28 +13,28 @@ abbrev decreases-loop : tie.decreases-loop
 decreases-loop state i own₀ n₀ own n = 8 - n
 
 loop-holds : tie.Need-loop-init invariant-loop decreases-loop
-loop-holds c = own-none
+loop-holds c = own_none
 
 loop-again : tie.Need-loop-preserved invariant-loop decreases-loop
 loop-again c =
     let t = c.before.before in
     let h = t.before.before.before in
-    own-store h.before.before.loop.invariant h.before.loop-test.true h.hold_at.ensures (sym t.is_held_lem.ensures ∙ c.before.if1.true) c.if2.true refl
+    own_store h.before.before.loop.invariant h.before.loop-test.true h.hold_at.ensures (sym t.is_held_lem.ensures ∙ c.before.if1.true) c.if2.true refl
 
 loop-again-2 : tie.Need-loop-preserved-2 invariant-loop decreases-loop
 loop-again-2 c =
     let t = c.before.before in
     let h = t.before.before.before in
-    own-high h.before.before.loop.invariant h.before.loop-test.true h.hold_at.ensures (sym t.is_held_lem.ensures ∙ c.before.if1.true) c.if2.false
+    own_high h.before.before.loop.invariant h.before.loop-test.true h.hold_at.ensures (sym t.is_held_lem.ensures ∙ c.before.if1.true) c.if2.false
 
 loop-again-3 : tie.Need-loop-preserved-3 invariant-loop decreases-loop
 loop-again-3 c =
     let t = c.before in
     let h = t.before.before.before in
-    own-free h.before.before.loop.invariant h.before.loop-test.true h.hold_at.ensures (sym t.is_held_lem.ensures ∙ c.if1.false)
+    own_free h.before.before.loop.invariant h.before.loop-test.true h.hold_at.ensures (sym t.is_held_lem.ensures ∙ c.if1.false)
 
 returns : tie.Need-returns invariant-loop decreases-loop
-returns c = own-all c.before.loop.invariant c.loop-test.false
+returns c = own_all c.before.loop.invariant c.loop-test.false
 
 pub own-places-spec : {M : Type 1} → statement M
 own-places-spec =

@@ -1,7 +1,7 @@
 -- The invariant: those below x are passed, those of them who are inside and unended counted, and a faulted one found.
 use Prim.Native.Nat.{◌-◌, ◌≤◌, ◌<◌}
 use native.Mathlib.Omega.{arith}
-use Rattle.waits.proofs.Insides.{InsideTo, too_many, nobody-above, nobody-inside, inside-yet, inside-end, not_lower, inside-out, inside-unended, inside-ended, inside-faulted}
+use Rattle.waits.proofs.Insides.{InsideTo, too_many, nobody_above, nobody_inside, inside_yet, inside_end, not_lower, inside_out, inside_unended, inside_ended, inside_faulted}
 use borrow.Author.Rules.{rules}
 use Rattle.waits.proofs.inside.inside_of.Statement.{statement}
 use Rattle.waits.proofs.inside.inside_of.Tie as tie
@@ -17,17 +17,17 @@ returns : tie.Need-returns invariant-loop decreases-loop
 returns c = too_many c.before.before.activities-of.ensures c.before.if1.true
 
 returns-2 : tie.Need-returns-2 invariant-loop decreases-loop
-returns-2 c = nobody-above c.before.before.before.activities-of.ensures c.nobody2.ensures c.before.if2.true
+returns-2 c = nobody_above c.before.before.before.activities-of.ensures c.nobody2.ensures c.before.if2.true
 
 returns-3 : tie.Need-returns-3 invariant-loop decreases-loop
 returns-3 c =
     let n = c.before in
-    nobody-inside n.before.before.before.before.activities-of.ensures n.before.lowest.ensures c.nobody3.ensures n.if3.true
+    nobody_inside n.before.before.before.before.activities-of.ensures n.before.lowest.ensures c.nobody3.ensures n.if3.true
 
 loop-holds : tie.Need-loop-init invariant-loop decreases-loop
 loop-holds c =
     let q = c.before.lowest.ensures in
-    (q.above, q.from, omega arith, inside-yet c.before.before.before.before.activities-of.ensures q c.if3.false)
+    (q.above, q.from, omega arith, inside_yet c.before.before.before.before.activities-of.ensures q c.if3.false)
 
 returns-4 : tie.Need-returns-4 invariant-loop decreases-loop
 returns-4 c =
@@ -55,7 +55,7 @@ loop-again c =
       omega arith,
       omega arith,
       omega arith,
-      inside-unended j.before.before.before.before.before.activities-of.ensures v.3 v.0 v.1 t.loop-test.true a.spawner-at.ensures g.joins.ensures
+      inside_unended j.before.before.before.before.before.activities-of.ensures v.3 v.0 v.1 t.loop-test.true a.spawner-at.ensures g.joins.ensures
           c.before.before.if5.true c.before.standing-at.ensures c.if6.true,
     )
 
@@ -70,7 +70,7 @@ loop-again-2 c =
       omega arith,
       omega arith,
       omega arith,
-      inside-faulted j.before.before.before.before.before.activities-of.ensures v.3 v.0 v.1 t.loop-test.true a.spawner-at.ensures g.joins.ensures
+      inside_faulted j.before.before.before.before.before.activities-of.ensures v.3 v.0 v.1 t.loop-test.true a.spawner-at.ensures g.joins.ensures
           n.before.before.if5.true n.before.standing-at.ensures n.if6.false c.if7.true,
     )
 
@@ -85,7 +85,7 @@ loop-again-3 c =
       omega arith,
       omega arith,
       omega arith,
-      inside-ended j.before.before.before.before.before.activities-of.ensures v.3 v.0 v.1 t.loop-test.true a.spawner-at.ensures g.joins.ensures
+      inside_ended j.before.before.before.before.before.activities-of.ensures v.3 v.0 v.1 t.loop-test.true a.spawner-at.ensures g.joins.ensures
           n.before.before.if5.true n.before.standing-at.ensures n.if6.false c.if7.false,
     )
 
@@ -99,13 +99,13 @@ loop-again-4 c =
       omega arith,
       omega arith,
       omega arith,
-      inside-out j.before.before.before.before.before.activities-of.ensures v.3 v.0 v.1 t.loop-test.true a.spawner-at.ensures g.joins.ensures c.if5.false,
+      inside_out j.before.before.before.before.before.activities-of.ensures v.3 v.0 v.1 t.loop-test.true a.spawner-at.ensures g.joins.ensures c.if5.false,
     )
 
 returns-5 : tie.Need-returns-5 invariant-loop decreases-loop
 returns-5 c =
     let v = c.before.loop.invariant in
-    inside-end c.before.before.before.before.before.before.activities-of.ensures v.3 v.2 c.loop-test.false
+    inside_end c.before.before.before.before.before.before.activities-of.ensures v.3 v.2 c.loop-test.false
 
 pub inside-of-spec : {M : Type 1} → statement M
 inside-of-spec =

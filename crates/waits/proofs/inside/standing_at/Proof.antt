@@ -1,6 +1,6 @@
 -- One byte.
 use native.Mathlib.Omega.{arith}
-use Rattle.waits.proofs.Insides.{standing-there}
+use Rattle.waits.proofs.Insides.{standing_there}
 use borrow.Author.Rules.{rules}
 use Rattle.waits.proofs.inside.standing_at.Statement.{statement}
 use Rattle.waits.proofs.inside.standing_at.Tie as tie
@@ -9,7 +9,7 @@ returns : tie.Need-returns
 returns c = record { reads = λ s l j. absurd (let z : ⊥ = omega arith in z) }
 
 returns-2 : tie.Need-returns-2
-returns-2 c = standing-there c.get1.ensures (omega arith)
+returns-2 c = standing_there c.get1.ensures (omega arith)
 
 pub standing-at-spec : {M : Type 1} → statement M
 standing-at-spec =

@@ -1,23 +1,23 @@
 -- By the command.
-use Rattle.waits.proofs.Waitings.{awaits-end, awaits-next, awaits-read, awaits-reset, awaits-other}
+use Rattle.waits.proofs.Waitings.{awaits_end, awaits_next, awaits_read, awaits_reset, awaits_other}
 use borrow.Author.Rules.{rules}
 use Rattle.waits.proofs.waiting.awaited_at.Statement.{statement}
 use Rattle.waits.proofs.waiting.awaited_at.Tie as tie
 
 returns : tie.Need-returns
-returns c = awaits-end c.before.enum_told.given.1 c.end-inside.ensures
+returns c = awaits_end c.before.enum_told.given.1 c.end-inside.ensures
 
 returns-2 : tie.Need-returns-2
-returns-2 c = awaits-next c.before.enum-told2.given.1 c.next-awaits.ensures
+returns-2 c = awaits_next c.before.enum-told2.given.1 c.next-awaits.ensures
 
 returns-3 : tie.Need-returns-3
-returns-3 c = awaits-read c.before.wide.ensures.0 c.own-awaits.ensures c.before.before.before.command.given.1
+returns-3 c = awaits_read c.before.wide.ensures.0 c.own-awaits.ensures c.before.before.before.command.given.1
 
 returns-4 : tie.Need-returns-4
-returns-4 c = awaits-reset c.before.wide2.ensures.0 c.own-awaits2.ensures c.before.before.before.command2.given.1
+returns-4 c = awaits_reset c.before.wide2.ensures.0 c.own-awaits2.ensures c.before.before.before.command2.given.1
 
 returns-5 : tie.Need-returns-5
-returns-5 c = awaits-other c.before.before.before.before.args.command c.match.keys5
+returns-5 c = awaits_other c.before.before.before.before.args.command c.match.keys5
 
 pub awaited-at-spec : {M : Type 1} → statement M
 awaited-at-spec =

@@ -1,5 +1,5 @@
 -- The body at the top, and the one that runs it.
-use Rattle.waits.proofs.Waitings.{end-alone, end-elsewhere, end-inside}
+use Rattle.waits.proofs.Waitings.{end_alone, end_elsewhere, end_inside}
 use borrow.Author.Rules.{rules}
 use Rattle.waits.proofs.waiting.end_inside.Statement.{statement}
 use Rattle.waits.proofs.waiting.end_inside.Tie as tie
@@ -7,7 +7,7 @@ use Rattle.waits.proofs.waiting.end_inside.Tie as tie
 returns : tie.Need-returns
 returns c =
     let w = c.before.before in
-    end-alone w.before.depth-at.ensures w.wide.ensures.0 c.nobody.ensures c.before.if1.true
+    end_alone w.before.depth-at.ensures w.wide.ensures.0 c.nobody.ensures c.before.if1.true
 
 returns-2 : tie.Need-returns-2
 returns-2 c =
@@ -15,7 +15,7 @@ returns-2 c =
     let g = o.before.before in
     let f = g.before in
     let w = f.before.before in
-    end-inside w.before.depth-at.ensures w.wide.ensures.0 f.before.if1.false f.frame_at.ensures g.is-finish.ensures o.frame-at2.ensures
+    end_inside w.before.depth-at.ensures w.wide.ensures.0 f.before.if1.false f.frame_at.ensures g.is-finish.ensures o.frame-at2.ensures
     c.before.wide2.ensures.0 o.before.if2.true c.inside_of.ensures
 
 returns-3 : tie.Need-returns-3
@@ -23,7 +23,7 @@ returns-3 c =
     let g = c.before.before in
     let f = g.before in
     let w = f.before.before in
-    end-elsewhere w.before.depth-at.ensures w.wide.ensures.0 f.before.if1.false f.frame_at.ensures g.is-finish.ensures c.nobody2.ensures
+    end_elsewhere w.before.depth-at.ensures w.wide.ensures.0 f.before.if1.false f.frame_at.ensures g.is-finish.ensures c.nobody2.ensures
     c.before.if2.false
 
 pub end-inside-spec : {M : Type 1} → statement M

@@ -5,13 +5,13 @@ use native.Mathlib.Omega.{arith}
 use borrow.Author.Rules.{rules}
 use borrow.Author.Tests.{ltb-true, ltb-false}
 use Rattle.rules.specs.State.{ended}
-use Rattle.rules.specs.Search.{countBelow}
+use Rattle.rules.specs.Search.{count_below}
 use Rattle.rules.proofs.Counting.{counted, uncounted, last}
 use Rattle.walk.proofs.counts.ended.Statement.{statement}
 use Rattle.walk.proofs.counts.ended.Tie as tie
 
 abbrev invariant-loop : tie.invariant-loop
-invariant-loop s made count₀ i₀ count i = (i ≤ min made 64) × (count ≤ i) × (count ≡ countBelow i (ended s))
+invariant-loop s made count₀ i₀ count i = (i ≤ min made 64) × (count ≤ i) × (count ≡ count_below i (ended s))
 
 abbrev decreases-loop : tie.decreases-loop
 decreases-loop s made count₀ i₀ count i = 64 - i
@@ -20,7 +20,7 @@ cast-made : tie.Need-overflow-cast-made invariant-loop decreases-loop
 cast-made c = search rules
 
 loop-holds : tie.Need-loop-init invariant-loop decreases-loop
-unfolding countBelow
+unfolding count_below
 loop-holds c = (omega arith, omega arith, refl)
 
 mul-a : tie.Need-overflow-mul-a invariant-loop decreases-loop

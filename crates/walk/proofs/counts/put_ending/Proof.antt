@@ -1,5 +1,5 @@
 -- The count of those ended is the total's third number.
-use Rattle.walk.proofs.Parts.{counted-total}
+use Rattle.walk.proofs.Parts.{counted_total}
 use borrow.Author.Rules.{rules}
 use Rattle.walk.proofs.counts.put_ending.Statement.{statement}
 use Rattle.walk.proofs.counts.put_ending.Tie as tie
@@ -22,7 +22,7 @@ same_length c = search rules
 returns : tie.Need-returns
 returns c =
     let a = c.before.before.before.before.before.before.before.before.args in
-    counted-total a.work a.s.steps a.s.activities c.before.before.before.before.before.before.ended.ensures c.before.before.put-total.ensures
+    counted_total a.work a.s.steps a.s.activities c.before.before.before.before.before.before.ended.ensures c.before.before.put-total.ensures
 
 pub put-ending-spec : {M : Type 1} → statement M
 put-ending-spec =

@@ -5,21 +5,21 @@ use native.Mathlib.Omega.{arith}
 use mathlib.Core.Path.{◌≡◌, ap, ◌∙◌}
 use lib.ListN.{drop}
 use Rattle.program.specs.Bodies.{program_of}
-use Rattle.program.proofs.RangeLaws.{tail-part}
-use Rattle.encoding.specs.Bytes.{allZero, byte_at}
-use Rattle.wellformed.proofs.Loops.{Passed, none_yet, one_more, so, not_so, part-fails, parts-end}
-use Rattle.wellformed.proofs.WithinLaws.{frameTest, stack-joined, stack-deep, below_at}
+use Rattle.program.proofs.RangeLaws.{tail_part}
+use Rattle.encoding.specs.Bytes.{all_zero, byte_at}
+use Rattle.wellformed.proofs.Loops.{Passed, none_yet, one_more, so, not_so, part_fails, parts_end}
+use Rattle.wellformed.proofs.WithinLaws.{frame_test, stack_joined, stack_deep, below_at}
 use Rattle.wellformed.proofs.frames.stack_passes.Statement.{statement}
 use Rattle.wellformed.proofs.frames.stack_passes.Tie as tie
 
 abbrev invariant-loop : tie.invariant-loop
-invariant-loop table starts marks made a depth d₀ d = Passed (byte_at a 7) (frameTest (program_of table) made a) d
+invariant-loop table starts marks made a depth d₀ d = Passed (byte_at a 7) (frame_test (program_of table) made a) d
 
 abbrev decreases-loop : tie.decreases-loop
 decreases-loop table starts marks made a depth d₀ d = byte_at a 7 - d
 
 returns : tie.Need-returns invariant-loop decreases-loop
-returns c = stack-deep _ _ _ (omega arith)
+returns c = stack_deep _ _ _ (omega arith)
 
 loop-holds : tie.Need-loop-init invariant-loop decreases-loop
 loop-holds c = none_yet _ _
@@ -35,17 +35,17 @@ loop-again c = one_more c.before.before.before.loop.invariant (omega arith) (so 
 returns-2 : tie.Need-returns-2 invariant-loop decreases-loop
 returns-2 c =
     let start = c.before.before.before.before.before.before.before.before.before.before in
-    part-fails _ _ _ c.before.before.before.loop.d (stack-joined _ _ _ (omega arith) start.requires.1) (omega arith) (not_so c.before.frame-passes.ensures c.if2.false)
+    part_fails _ _ _ c.before.before.before.loop.d (stack_joined _ _ _ (omega arith) start.requires.1) (omega arith) (not_so c.before.frame-passes.ensures c.if2.false)
 
 returns-3 : tie.Need-returns-3 invariant-loop decreases-loop
 returns-3 c =
     let depth = c.before.before.before.before.before in
     let start = depth.before.before.before.before.before in
     let b = start.args.a.now in
-    let all : c.is_zero.result ≡ allZero (drop (80 + 8 * byte_at b 7) b) =
-    c.is_zero.ensures ∙ ap allZero (tail-part b (80 + 8 * depth.wide.result)) ∙ ap (λ m. allZero (drop (80 + 8 * m) b)) depth.wide.ensures.0
+    let all : c.is_zero.result ≡ all_zero (drop (80 + 8 * byte_at b 7) b) =
+    c.is_zero.ensures ∙ ap all_zero (tail_part b (80 + 8 * depth.wide.result)) ∙ ap (λ m. all_zero (drop (80 + 8 * m) b)) depth.wide.ensures.0
     in
-    parts-end (allZero (drop (80 + 8 * byte_at b 7) b)) (stack-joined _ _ b (omega arith) start.requires.1) c.before.before.before.loop.invariant (omega arith) all
+    parts_end (all_zero (drop (80 + 8 * byte_at b 7) b)) (stack_joined _ _ b (omega arith) start.requires.1) c.before.before.before.loop.invariant (omega arith) all
 
 pub stack-passes-spec : {M : Type 1} → statement M
 stack-passes-spec =

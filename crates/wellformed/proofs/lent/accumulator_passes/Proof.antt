@@ -1,19 +1,19 @@
 -- The operator, the owner; the reserved bytes decide at last.
-use Rattle.wellformed.proofs.Fields.{operator-fails, owner-fails, accumulator-left}
+use Rattle.wellformed.proofs.Fields.{operator_fails, owner_fails, accumulator_left}
 use borrow.Author.Rules.{rules}
 use Rattle.wellformed.proofs.lent.accumulator_passes.Statement.{statement}
 use Rattle.wellformed.proofs.lent.accumulator_passes.Tie as tie
 
 returns : tie.Need-returns
-returns c = operator-fails _ _ c.if1.true
+returns c = operator_fails _ _ c.if1.true
 
 returns-2 : tie.Need-returns-2
-returns-2 c = owner-fails _ _ c.if2.true
+returns-2 c = owner_fails _ _ c.if2.true
 
 returns-3 : tie.Need-returns-3
 returns-3 c =
     let e2 = c.before.before in
-    accumulator-left _ _ e2.before.before.before.if1.false e2.if2.false c.is_zero.ensures
+    accumulator_left _ _ e2.before.before.before.if1.false e2.if2.false c.is_zero.ensures
 
 pub accumulator-passes-spec : {M : Type 1} → statement M
 accumulator-passes-spec =

@@ -2,22 +2,22 @@
 use native.Mathlib.Omega.{arith}
 use mathlib.Core.Path.{◌≡◌}
 use Rattle.encoding.specs.Bytes.{number_of, part}
-use Rattle.wellformed.proofs.Fields.{head-fails, head-left}
+use Rattle.wellformed.proofs.Fields.{head_fails, head_left}
 use borrow.Author.Rules.{rules}
 use Rattle.wellformed.proofs.lent.head_passes.Statement.{statement}
 use Rattle.wellformed.proofs.lent.head_passes.Tie as tie
 
 returns : tie.Need-returns
-returns c = λ p w. head-fails (λ h. c.if1.true h.version)
+returns c = λ p w. head_fails (λ h. c.if1.true h.version)
 
 returns-2 : tie.Need-returns-2
-returns-2 c = λ p w. head-fails (λ h. let m = h.activities in omega arith)
+returns-2 c = λ p w. head_fails (λ h. let m = h.activities in omega arith)
 
 returns-3 : tie.Need-returns-3
-returns-3 c = λ p w. head-fails (λ h. let m = h.clocks in omega arith)
+returns-3 c = λ p w. head_fails (λ h. let m = h.clocks in omega arith)
 
 returns-4 : tie.Need-returns-4
-returns-4 c = λ p w. head-fails (λ h. let m = h.accumulators in omega arith)
+returns-4 c = λ p w. head_fails (λ h. let m = h.accumulators in omega arith)
 
 -- The steps that were read.
 abbrev start : tie.After-steps-in → tie.Start
@@ -27,14 +27,14 @@ steps : (c : tie.After-steps-in) → c.steps-in.result ≡ number_of (part (star
 steps c = c.steps-in.ensures (start c).requires
 
 returns-5 : tie.Need-returns-5
-returns-5 c = λ p w. let n = steps c.before in head-fails (λ h. let m = h.steps in omega arith)
+returns-5 c = λ p w. let n = steps c.before in head_fails (λ h. let m = h.steps in omega arith)
 
 returns-6 : tie.Need-returns-6
 returns-6 c =
     λ p w.
     let n = steps c.before.before.before in
     let q = c.before.wide-steps.ensures in
-    head-fails (λ h. let m = h.work in omega arith)
+    head_fails (λ h. let m = h.work in omega arith)
 
 returns-7 : tie.Need-returns-7
 returns-7 c =
@@ -46,7 +46,7 @@ returns-7 c =
     let e2 = e3.before.before in
     let n = steps e5.before in
     let q = e6.before.wide-steps.ensures in
-    head-left
+    head_left
     (
     record {
       version = e2.before.before.if1.false;

@@ -2,12 +2,12 @@
 use borrow.Author.Rules.{rules}
 use native.Mathlib.Omega.{arith}
 use mathlib.Core.Path.{refl}
-use Rattle.wellformed.proofs.Marking.{table-some, table-short, no_body, start-there, start_small, past_end, by-mark}
+use Rattle.wellformed.proofs.Marking.{table_some, table_short, no_body, start_there, start_small, past_end, by_mark}
 use Rattle.wellformed.proofs.marks.is_placed.Statement.{statement}
 use Rattle.wellformed.proofs.marks.is_placed.Tie as tie
 
 shared-slice-read-wide : tie.Need-shared-slice-read-wide
-shared-slice-read-wide c = table-some c.before.before.before.requires.known
+shared-slice-read-wide c = table_some c.before.before.before.requires.known
 
 returns : tie.Need-returns
 returns c =
@@ -19,7 +19,7 @@ shared-slice-read-at : tie.Need-shared-slice-read-at
 shared-slice-read-at c =
     let body = c.before.before in
     let start = body.before.before.before.before.before in
-    start-there start.requires.known start.args.f body.before.wide.ensures.0 body.wide2.ensures.0 refl c.before.if1.false
+    start_there start.requires.known start.args.f body.before.wide.ensures.0 body.wide2.ensures.0 refl c.before.if1.false
 
 add_at : tie.Need-overflow-add-at
 add_at c =
@@ -36,7 +36,7 @@ returns-2 c =
     c.if2.true
 
 element-copy-out-wide : tie.Need-element-copy-out-wide
-element-copy-out-wide c = omega (arith, table-short c.before.before.before.before.before.before.before.before.before.requires.known)
+element-copy-out-wide c = omega (arith, table_short c.before.before.before.before.before.before.before.before.before.requires.known)
 
 returns-3 : tie.Need-returns-3
 returns-3 c =
@@ -44,7 +44,7 @@ returns-3 c =
     let body = offset.before.before.before in
     let start = body.before.before.before.before.before in
     rw c.wide3.ensures.0
-    (by-mark start.requires.known start.args.f body.before.wide.ensures.0 body.wide2.ensures.0 offset.wide-offset.ensures.0
+    (by_mark start.requires.known start.args.f body.before.wide.ensures.0 body.wide2.ensures.0 offset.wide-offset.ensures.0
     offset.before.before.if1.false
     start.requires.places)
 

@@ -1,7 +1,7 @@
 -- By the command's byte.
 use borrow.Author.Rules.{rules}
 use mathlib.Core.Path.{◌∙◌}
-use Rattle.wellformed.proofs.Laws.{by-finish, by-repeat, by-choose, by-no-other}
+use Rattle.wellformed.proofs.Laws.{by_finish_lem, by_repeat_lem, by_choose_lem, by_no_other}
 use Rattle.wellformed.proofs.runs.run_by.Statement.{statement}
 use Rattle.wellformed.proofs.runs.run_by.Tie as tie
 
@@ -18,7 +18,7 @@ returns : tie.Need-returns
 returns c =
     let op = c.before.before.before in
     let from = op.before.args in
-    c.once_runs.ensures ∙ by-finish from.made from.command from.f _ _ op.opcode.ensures.0 c.before.named.ensures.0 c.before.before.if1.true
+    c.once_runs.ensures ∙ by_finish_lem from.made from.command from.f _ _ op.opcode.ensures.0 c.before.named.ensures.0 c.before.before.if1.true
 
 times-requires : tie.Need-times-requires
 times-requires c κs = search rules
@@ -35,7 +35,7 @@ returns-2 c =
     let op = taken.before.before in
     let from = op.before.args in
     c.repeat_runs.ensures
-    ∙ by-repeat from.made from.command from.f _ _ op.opcode.ensures.0 c.before.named2.ensures.0 _ c.before.before.times.ensures.0 taken.if2.true
+    ∙ by_repeat_lem from.made from.command from.f _ _ op.opcode.ensures.0 c.before.named2.ensures.0 _ c.before.before.times.ensures.0 taken.if2.true
 
 named-requires-3 : tie.Need-named-requires-3
 named-requires-3 c κs = search rules
@@ -48,13 +48,13 @@ returns-3 c =
     let taken = c.before.before in
     let op = taken.before.before.before in
     let from = op.before.args in
-    c.once-runs2.ensures ∙ by-choose from.made from.command from.f _ _ op.opcode.ensures.0 c.before.named3.ensures.0 taken.if3.true
+    c.once-runs2.ensures ∙ by_choose_lem from.made from.command from.f _ _ op.opcode.ensures.0 c.before.named3.ensures.0 taken.if3.true
 
 returns-4 : tie.Need-returns-4
 returns-4 c =
     let op = c.before.before.before in
     let from = op.before.args in
-    by-no-other from.made from.command from.f _ op.opcode.ensures.0 c.before.before.if1.false c.before.if2.false c.if3.false
+    by_no_other from.made from.command from.f _ op.opcode.ensures.0 c.before.before.if1.false c.before.if2.false c.if3.false
 
 pub run-by-spec : {M : Type 1} → statement M
 run-by-spec =

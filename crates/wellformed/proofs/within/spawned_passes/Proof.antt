@@ -3,12 +3,12 @@ use borrow.Author.Rules.{rules}
 use mathlib.Core.Bool.{true}
 use mathlib.Core.Path.{◌≡◌, ◌∙◌}
 use Rattle.program.specs.Bodies.{program_of}
-use Rattle.rules.specs.WellFormed.{bodyFits, barrierFits, namesFit}
+use Rattle.rules.specs.WellFormed.{body_fits, barrier_fits, names_fit}
 use Rattle.encoding.specs.Bytes.{byte_at}
-use Rattle.encoding.specs.Decode.{activityAt, statusPasses}
-use Rattle.wellformed.specs.Passing.{stackPasses, holdsPass}
-use Rattle.wellformed.proofs.Loops.{so, not_so, holds-so, fails-so}
-use Rattle.wellformed.proofs.WithinLaws.{spawned, holds-whole, stack-fit}
+use Rattle.encoding.specs.Decode.{activity_at, status_passes}
+use Rattle.wellformed.specs.Passing.{stack_passes, holds_pass}
+use Rattle.wellformed.proofs.Loops.{so, not_so, holds_so, fails_so}
+use Rattle.wellformed.proofs.WithinLaws.{spawned, holds_whole, stack_fit}
 use Rattle.wellformed.proofs.within.spawned_passes.Statement.{statement}
 use Rattle.wellformed.proofs.within.spawned_passes.Tie as tie
 
@@ -34,37 +34,37 @@ abbrev from6 : tie.Else6 → tie.Start
 from6 c = from5 c.before.before
 
 -- the tests that passed
-status : (c : tie.Else1) → let b = (from1 c).args.a.now in statusPasses (byte_at b 4) (byte_at b 5) ≡ true
-status c = holds-so (c.before.status-whole.ensures (from1 c).requires.1) c.if1.false
+status : (c : tie.Else1) → let b = (from1 c).args.a.now in status_passes (byte_at b 4) (byte_at b 5) ≡ true
+status c = holds_so (c.before.status-whole.ensures (from1 c).requires.1) c.if1.false
 
-stack : (c : tie.Else2) → let start = from2 c in stackPasses (program_of start.args.table.now) start.args.made.activities start.args.a.now ≡ true
-stack c = holds-so c.before.stack-passes.ensures c.if2.false
+stack : (c : tie.Else2) → let start = from2 c in stack_passes (program_of start.args.table.now) start.args.made.activities start.args.a.now ≡ true
+stack c = holds_so c.before.stack-passes.ensures c.if2.false
 
-names : (c : tie.Else3) → let start = from3 c in holdsPass start.args.made.clocks start.args.a.now ≡ true
-names c = holds-so c.before.holds-pass.ensures c.if3.false
+names : (c : tie.Else3) → let start = from3 c in holds_pass start.args.made.clocks start.args.a.now ≡ true
+names c = holds_so c.before.holds-pass.ensures c.if3.false
 
-body : (c : tie.Else4) → bodyFits (activityAt (from4 c).args.a.now) ≡ true
-body c = holds-so c.before.body-fits.ensures c.if4.false
+body : (c : tie.Else4) → body_fits (activity_at (from4 c).args.a.now) ≡ true
+body c = holds_so c.before.body-fits.ensures c.if4.false
 
-barrier : (c : tie.Else5) → let start = from5 c in barrierFits (program_of start.args.table.now) (activityAt start.args.a.now) ≡ true
-barrier c = holds-so c.before.barrier-fits.ensures c.if5.false
+barrier : (c : tie.Else5) → let start = from5 c in barrier_fits (program_of start.args.table.now) (activity_at start.args.a.now) ≡ true
+barrier c = holds_so c.before.barrier-fits.ensures c.if5.false
 
-apart : (c : tie.Else6) → namesFit (activityAt (from6 c).args.a.now) ≡ true
-apart c = holds-so c.before.names-fit.ensures c.if6.false
+apart : (c : tie.Else6) → names_fit (activity_at (from6 c).args.a.now) ≡ true
+apart c = holds_so c.before.names-fit.ensures c.if6.false
 
 -- THE ANSWERS
 
 returns : tie.Need-returns
 returns c =
     let start = c.before.before.before.before.before in
-    let no = fails-so (c.before.status-whole.ensures start.requires.1) c.if1.true in
+    let no = fails_so (c.before.status-whole.ensures start.requires.1) c.if1.true in
     rw (no) at (spawned (program_of start.args.table.now) start.args.made start.args.i start.args.a.now)
 
 returns-2 : tie.Need-returns-2
 returns-2 c =
     let c1 = c.before.before in
     let start = from1 c1 in
-    let no = fails-so c.before.stack-passes.ensures c.if2.true in
+    let no = fails_so c.before.stack-passes.ensures c.if2.true in
     rw (status c1, no) at (spawned (program_of start.args.table.now) start.args.made start.args.i start.args.a.now)
 
 returns-3 : tie.Need-returns-3
@@ -72,11 +72,11 @@ returns-3 c =
     let c2 = c.before.before in
     let c1 = c2.before.before in
     let start = from1 c1 in
-    let no = fails-so c.before.holds-pass.ensures c.if3.true in
+    let no = fails_so c.before.holds-pass.ensures c.if3.true in
     rw (status c1, stack c2, no) at (spawned (program_of start.args.table.now) start.args.made start.args.i start.args.a.now)
 
 body-fits-requires : tie.Need-body-fits-requires
-body-fits-requires c κs = let start = from3 c in (start.pre.1, holds-whole start.args.made.clocks start.args.a.now (names c))
+body-fits-requires c κs = let start = from3 c in (start.pre.1, holds_whole start.args.made.clocks start.args.a.now (names c))
 
 returns-4 : tie.Need-returns-4
 returns-4 c =
@@ -84,13 +84,13 @@ returns-4 c =
     let c2 = c3.before.before in
     let c1 = c2.before.before in
     let start = from1 c1 in
-    let no = fails-so c.before.body-fits.ensures c.if4.true in
+    let no = fails_so c.before.body-fits.ensures c.if4.true in
     rw (status c1, stack c2, names c3, no) at (spawned (program_of start.args.table.now) start.args.made start.args.i start.args.a.now)
 
 barrier-fits-requires : tie.Need-barrier-fits-requires
 barrier-fits-requires c κs =
     let start = from4 c in
-    (start.pre.0.known, start.pre.1, stack-fit (program_of start.args.table.now) start.args.made.activities start.args.a.now (stack c.before.before.before.before), body c)
+    (start.pre.0.known, start.pre.1, stack_fit (program_of start.args.table.now) start.args.made.activities start.args.a.now (stack c.before.before.before.before), body c)
 
 returns-5 : tie.Need-returns-5
 returns-5 c =
@@ -99,13 +99,13 @@ returns-5 c =
     let c2 = c3.before.before in
     let c1 = c2.before.before in
     let start = from1 c1 in
-    let no = fails-so c.before.barrier-fits.ensures c.if5.true in
+    let no = fails_so c.before.barrier-fits.ensures c.if5.true in
     rw (status c1, stack c2, names c3, body c4, no) at (spawned (program_of start.args.table.now) start.args.made start.args.i start.args.a.now)
 
 names-fit-requires : tie.Need-names-fit-requires
 names-fit-requires c κs =
     let start = from5 c in
-    (start.pre.1, holds-whole start.args.made.clocks start.args.a.now (names c.before.before.before.before))
+    (start.pre.1, holds_whole start.args.made.clocks start.args.a.now (names c.before.before.before.before))
 
 returns-6 : tie.Need-returns-6
 returns-6 c =
@@ -115,7 +115,7 @@ returns-6 c =
     let c2 = c3.before.before in
     let c1 = c2.before.before in
     let start = from1 c1 in
-    let no = fails-so c.before.names-fit.ensures c.if6.true in
+    let no = fails_so c.before.names-fit.ensures c.if6.true in
     rw (status c1, stack c2, names c3, body c4, barrier c5, no) at (spawned (program_of start.args.table.now) start.args.made start.args.i start.args.a.now)
 
 returns-7 : tie.Need-returns-7
