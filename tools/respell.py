@@ -20,7 +20,7 @@ SPAN = re.compile(r"`[^`\n]*`")
 OF_A_FUNCTION = ("Proof.antt", "Answers.antt", "Invariants.antt")
 
 # Names that would meet another word, and what they are called.
-KEPT = {}
+KEPT = {"getD-" + n: "get_or_" + n for n in ("from", "mapped", "none", "padded")} | {"getD-listFrom": "get_or_list_from"}
 
 
 def snake(name):

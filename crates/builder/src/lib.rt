@@ -1,6 +1,7 @@
 // Builds tables from lists of commands, and lists the commands of a table. It relies only on what `program` promises.
 // A list is a slice of entries of five bytes: the command byte, its operand bytes in the order of the table, and bytes that the command lacks, which
 // are not looked at. Each call answers the documents' number.
+#![tactic(auto)]
 ghost use Rattle.std.specs.Prelude.{◌≡◌, map, length, take};
 ghost use Rattle.program.specs.Reading.{commands_of};
 ghost use Rattle.builder.specs.Build.{command_in, list_bytes, built_number, built_length, built_bytes, listed_number, listed_count, listed_entries};
@@ -12,14 +13,14 @@ pub mod entry; // entry.rt: the entry of a command
 mod commands; // commands.rt: the commands of a table as entries
 
 // The number, 0 where the list was accepted, and the length of the table that was written.
-#[derive(Drop)]
+#[derive(Clone, Copy)]
 pub struct Built {
     pub length: usize,
     pub number: u8,
 }
 
 // The number, 0 where the table was accepted, and how many entries were written.
-#[derive(Drop)]
+#[derive(Clone, Copy)]
 pub struct Listed {
     pub count: usize,
     pub number: u8,

@@ -1,4 +1,5 @@
 // The state as bytes, for a host that is no Rattle program: the layout of docs/STATE-BYTES.md, both ways.
+#![tactic(auto)]
 ghost use Rattle.std.specs.Prelude.{◌≡◌, cond, eqb, length};
 ghost use Rattle.encoding.specs.Encode.{encode_state};
 ghost use Rattle.encoding.specs.Decode.{decoded_of};
@@ -13,7 +14,7 @@ pub mod activities; // activities.rt: the activities
 mod fields; // fields.rt: the fields of a state
 
 // What bytes encode: a state, or none and then the state of zeros.
-#[derive(Drop)]
+#[derive(Clone, Copy)]
 pub struct Decoded {
     pub ok: bool,
     pub state: State,

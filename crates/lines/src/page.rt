@@ -6,7 +6,7 @@ ghost use Rattle.lines.specs.Paged.{Paged};
 use super::line::put_line;
 
 // A page: the place after its last line, and how many lines there are by then.
-#[derive(Drop)]
+#[derive(Clone, Copy)]
 pub struct Page {
     pub end: usize,
     pub line: usize,

@@ -96,12 +96,12 @@ pub drop_pos : {A : Type 0} (x : A) (l : List A) {k : ℕ} → 0 < k → drop (k
 drop_pos x l {k} h = let e : k ≡ suc (k - 1) = omega arith in ap (λ (j : ℕ). drop j (x ∷ l)) (sym e)
 
 -- Default elements after a list are read as no elements.
-pub get_d_padded : {A : Type 0} (l : List A) (n j : ℕ) (d : A) → get_or (l ++ replicate n d) j d ≡ get_or l j d
-get_d_padded [] zero j d = refl
-get_d_padded [] (suc n) zero d = refl
-get_d_padded [] (suc n) (suc j) d = get_d_padded [] n j d
-get_d_padded (x ∷ l) n zero d = refl
-get_d_padded (x ∷ l) n (suc j) d = get_d_padded l n j d
+pub get_or_padded : {A : Type 0} (l : List A) (n j : ℕ) (d : A) → get_or (l ++ replicate n d) j d ≡ get_or l j d
+get_or_padded [] zero j d = refl
+get_or_padded [] (suc n) zero d = refl
+get_or_padded [] (suc n) (suc j) d = get_or_padded [] n j d
+get_or_padded (x ∷ l) n zero d = refl
+get_or_padded (x ∷ l) n (suc j) d = get_or_padded l n j d
 
 -- BYTES
 

@@ -12,7 +12,7 @@ use Rattle.program.specs.Scan.{scan, bytes, starts_from, layout_of}
 use Rattle.program.specs.declared.command.Command.{Command}
 use Rattle.program.specs.declared.command.Command.TheVariants.{End}
 use Rattle.program.specs.declared.reading.Reading.TheVariants.{Whole}
-use Rattle.program.proofs.Basic.{get_d_padded}
+use Rattle.program.proofs.Basic.{get_or_padded}
 use Rattle.program.proofs.ShapeRows.{width_pos}
 use Rattle.program.proofs.ShapeReading.{known}
 use Rattle.program.proofs.ShapeListed.{before, passes}
@@ -43,7 +43,7 @@ length_starts t ok =
 -- A body begins after byte 0 and the bytes of the bodies before it.
 pub start_is : (t : List ℕ) (b : ℕ) → b < get_or t 0 0 → get_or (layout_of t).starts b 0 ≡ 1 + before b (commands_of t)
 unfolding layout_of
-start_is t b h = get_d_padded (starts_from (get_or t 0 0) 1 (commands_of t)) (16 - get_or t 0 0) b 0 ∙ start_from (get_or t 0 0) 1 b (commands_of t) h
+start_is t b h = get_or_padded (starts_from (get_or t 0 0) 1 (commands_of t)) (16 - get_or t 0 0) b 0 ∙ start_from (get_or t 0 0) 1 b (commands_of t) h
 
 -- THE COMMANDS
 

@@ -16,7 +16,7 @@ use Rattle.program.specs.Bodies.{first_body, after_end, locate, program_of, is_p
 use Rattle.program.specs.Scan.{scan, left_after, body_after, bytes, layout_of}
 use Rattle.program.specs.Places.{marks, table_marks, places_of}
 use Rattle.program.specs.declared.command.Command.{Command}
-use Rattle.program.proofs.Basic.{get_d_padded}
+use Rattle.program.proofs.Basic.{get_or_padded}
 use Rattle.program.proofs.ShapeRows.{width_pos}
 use Rattle.program.proofs.ShapeListed.{Listed, over, next, none_left, next_body, passes, onwards, before}
 use Rattle.program.proofs.ShapeLaws.{body_at}
@@ -143,7 +143,7 @@ marks_at {i = i} zero l h o = let e : i + 0 ≡ i = omega arith in let f : 0 + o
 marks_at {i = i} {cs = cs} (suc b) l h o =
     let e : i + suc b ≡ i + 1 + b = omega arith in
     let f : bytes (first_body cs) + before b (after_end cs) + o ≡ bytes (first_body cs) + (before b (after_end cs) + o) = omega arith in
-    rw (e, f) (marks_next l (omega arith) _ ∙ marks_at b (next_body l (omega arith)) (omega arith) o)
+    rw (e, f) (marks_next l (omega arith) _ ∙ marks_at {i = i + 1} b (next_body l (omega arith)) (omega arith) o)
 
 -- The mark of a byte of a body is the body's where a command of the body stands there, and only there.
 pub marked : (t : List ℕ) → scan t ≡ 0 → (b : ℕ) → b < get_or t 0 0 → (o : ℕ)
@@ -153,5 +153,5 @@ marked t ok b h o =
     let cs = commands_of t in
     let e : 1 + before b cs + o ≡ suc (before b cs + o) = omega arith in
     let f : 0 + o ≡ o = omega arith in
-    let g = get_d_padded (marks 0 0 cs) (2047 - length (marks 0 0 cs)) (before b cs + o) 0 ∙ rw zero-add at (marks_at b (passes t ok).listed (omega arith) o) in
+    let g = get_or_padded (marks 0 0 cs) (2047 - length (marks 0 0 cs)) (before b cs + o) 0 ∙ rw zero-add at (marks_at b (passes t ok).listed (omega arith) o) in
     rw (ok, start_is t b h, e, body_at (get_or t 0 0) b cs h) (ap (λ (m : ℕ). eqb m (b + 1)) g ∙ rw f at (marks_here (onwards b cs) b 0 0 o))

@@ -124,7 +124,7 @@ unfolding onwards before
 listed_at {i = i} zero l h = let e : i + 0 ≡ i = omega arith in rw e l
 listed_at {i = i} {s = s} {cs = cs} (suc b) l h =
     let e : i + suc b ≡ i + 1 + b = omega arith in
-    let r = listed_at b (next_body l (omega arith)) (omega arith) in
+    let r = listed_at {i = i + 1} b (next_body l (omega arith)) (omega arith) in
     rw (e, ← drop-drop (before b (after_end cs)) (bytes (first_body cs)) s) r
 
 -- The bytes of what is listed are all the bytes.

@@ -4,7 +4,7 @@ ghost use Rattle.program.specs.Command.{width_at, opcode, operands_of, padded, n
 ghost use Rattle.program.specs.Inner.Coding.{commands};
 
 // A command with its operands as they stand in the table.
-#[derive(Drop)]
+#[derive(Clone, Copy)]
 pub enum Command {
     End,
     Next,

@@ -7,7 +7,7 @@ ghost use Rattle.program.specs.Reading.{read, bare};
 use super::command::{Command, wide, width_at};
 
 // What stands at the start of a slice.
-#[derive(Drop)]
+#[derive(Clone, Copy)]
 pub enum Reading {
     // A whole command, and its bytes: of ATOM its own two.
     Whole { command: Command, size: usize },

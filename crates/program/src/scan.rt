@@ -9,21 +9,21 @@ use super::command::{Command, held, is_end, named, names, uses_cell, wide};
 use super::reading::{Reading, read};
 
 // The number of bodies, and the byte at which each begins. A refused table has no bodies.
-#[derive(Drop)]
+#[derive(Clone, Copy)]
 pub struct Layout {
     pub bodies: usize,
     pub starts: [usize; 16],
 }
 
 // A body: the number of its first failing command, or its bytes.
-#[derive(Drop)]
+#[derive(Clone, Copy)]
 pub enum Extent {
     Refused(u8),
     Ended(usize),
 }
 
 // The number 1 to 8 for which a table is turned down, or 0; and its layout.
-#[derive(Drop)]
+#[derive(Clone, Copy)]
 pub struct Scanned {
     pub number: u8,
     pub layout: Layout,

@@ -8,7 +8,7 @@ use super::count::counts;
 use super::scan::{Layout, scan};
 
 // Number 0 and what the table holds, or the number for which it is turned down and zeros.
-#[derive(Drop)]
+#[derive(Clone, Copy)]
 pub struct Table {
     pub number: u8,
     pub layout: Layout,

@@ -33,19 +33,19 @@ unfoldable pub EachHold : (Hold → Type 0) → List Hold → Type 0
 EachHold P l = (k : ℕ) → P (get_or l k no_hold)
 
 -- What stands under a name after a change of all.
-pub get_d_mapped : (f : Hold → Hold) → f no_hold ≡ no_hold → (l : List Hold) (k : ℕ) → get_or (map f l) k no_hold ≡ f (get_or l k no_hold)
-get_d_mapped f e l k = ap (λ d. get_or (map f l) k d) (sym e) ∙ get_or-map f l k no_hold
+pub get_or_mapped : (f : Hold → Hold) → f no_hold ≡ no_hold → (l : List Hold) (k : ℕ) → get_or (map f l) k no_hold ≡ f (get_or l k no_hold)
+get_or_mapped f e l k = ap (λ d. get_or (map f l) k d) (sym e) ∙ get_or-map f l k no_hold
 
 -- An empty array holds nothing.
-pub get_d_none : (n k : ℕ) → get_or (replicate n no_hold) k no_hold ≡ no_hold
-get_d_none zero k = refl
-get_d_none (suc n) zero = refl
-get_d_none (suc n) (suc k) = get_d_none n k
+pub get_or_none : (n k : ℕ) → get_or (replicate n no_hold) k no_hold ≡ no_hold
+get_or_none zero k = refl
+get_or_none (suc n) zero = refl
+get_or_none (suc n) (suc k) = get_or_none n k
 
 -- All are changed alike.
 pub each_map : (P Q : Hold → Type 0) (f : Hold → Hold) → f no_hold ≡ no_hold → ((h : Hold) → P h → Q (f h)) → (l : List Hold) → EachHold P l → EachHold Q (map f l)
 unfolding EachHold
-each_map P Q f e g l p k = subst Q (sym (get_d_mapped f e l k)) (g (get_or l k no_hold) (p k))
+each_map P Q f e g l p k = subst Q (sym (get_or_mapped f e l k)) (g (get_or l k no_hold) (p k))
 
 -- One gets another value.
 pub each_set : (P : Hold → Type 0) (l : List Hold) (j : ℕ) (h : Hold) → P h → EachHold P l → EachHold P (set l j h)
@@ -59,7 +59,7 @@ each_set P l j h q p k = go (stored l j h k no_hold)
 -- None is held.
 pub each_none : (P : Hold → Type 0) → P no_hold → (n : ℕ) → EachHold P (replicate n no_hold)
 unfolding EachHold
-each_none P q n k = subst P (sym (get_d_none n k)) q
+each_none P q n k = subst P (sym (get_or_none n k)) q
 
 -- What a child gets: each hold of a bit of the mask, live, and nothing else.
 pub each_lent : (P Q : Hold → Type 0) → Q no_hold → (m j : ℕ) (l : List Hold)
@@ -158,7 +158,7 @@ module _ (made : ℕ) (l : List Hold) where
   -- All are gone.
   pub turned_none : (n : ℕ) → Turned made l (replicate n no_hold)
   unfolding Turned
-  turned_none n k = vacated (get_d_none n k)
+  turned_none n k = vacated (get_or_none n k)
 
   -- One gets another value.
   turned_set : {clocked : Bool} (n : ℕ) (h : Hold) → Replaced made clocked (get_or l n no_hold) h → Turned made l (set l n h)
@@ -189,8 +189,8 @@ turned_end p made a = go (leb a.depth 1) (ltb 1 (top a).runs)
 -- Both steps of NEXT.
 turned_next : (p : Program) (made : ℕ) (a : Activity) (b : Bool) → Turned made a.holds (next_of p a b).holds
 unfolding next_of past Turned
-turned_next p made a true k = raised (get_d_mapped pass refl a.holds k)
-turned_next p made a false k = quieted (get_d_mapped quiesce refl a.holds k)
+turned_next p made a true k = raised (get_or_mapped pass refl a.holds k)
+turned_next p made a false k = quieted (get_or_mapped quiesce refl a.holds k)
 
 -- By the kind of the command.
 pub turned : {p : Program} {e : Env} {i : ℕ} {a : Activity} {c : Command} {x : Effect} → Kind p e i a c x → Turned e.clock a.holds x.self.holds

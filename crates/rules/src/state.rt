@@ -1,7 +1,7 @@
 // The state, by value: wide fields first, so that nothing is padded where it can be helped.
 
 // A fault: a breach, by its number in document 01, or F8, document 02's, of an owner to whom a finish passes a fault on.
-#[derive(Drop)]
+#[derive(Clone, Copy)]
 pub enum Fault {
     F1,
     F2,
@@ -14,7 +14,7 @@ pub enum Fault {
 }
 
 // An activity's standing (document 01): running, at a meeting, ended, or faulted.
-#[derive(Drop)]
+#[derive(Clone, Copy)]
 pub enum Status {
     Running,
     AtBarrier,
@@ -23,7 +23,7 @@ pub enum Status {
 }
 
 // A body on an activity's stack.
-#[derive(Drop)]
+#[derive(Clone, Copy)]
 pub struct Frame {
     // The place of its command: bytes from the body's first command. Below the top it stays on the FINISH, REPEAT or CHOOSE that runs the body above.
     pub offset: u16,
@@ -35,7 +35,7 @@ pub struct Frame {
 }
 
 // Whether a clock is held under a name, and how.
-#[derive(Drop)]
+#[derive(Clone, Copy)]
 pub enum Registration {
     Free,
     Live,
@@ -43,14 +43,14 @@ pub enum Registration {
 }
 
 // A clock name of an activity.
-#[derive(Drop)]
+#[derive(Clone, Copy)]
 pub struct Hold {
     pub phase: u16,
     pub clock: u8,
     pub registration: Registration,
 }
 
-#[derive(Drop)]
+#[derive(Clone, Copy)]
 pub struct Activity {
     // Document 01: the hand.
     pub register: u32,
@@ -65,21 +65,21 @@ pub struct Activity {
 }
 
 // How an accumulator reduces.
-#[derive(Drop)]
+#[derive(Clone, Copy)]
 pub enum Operator {
     Sum,
     Minimum,
     Maximum,
 }
 
-#[derive(Drop)]
+#[derive(Clone, Copy)]
 pub struct Accumulator {
     pub value: u32,
     pub owner: u8,
     pub operator: Operator,
 }
 
-#[derive(Drop)]
+#[derive(Clone, Copy)]
 pub struct State {
     pub cells: [u32; 16],
     pub acts: [Activity; 64],

@@ -1,14 +1,14 @@
 // Tables made of commands.
 
 // A table under construction: its bytes so far.
-#[derive(Drop)]
+#[derive(Clone, Copy)]
 pub struct Built {
     pub bytes: [u8; 2049],
     pub len: usize,
 }
 
 // A command of one to four bytes, or two commands that come together.
-#[derive(Drop)]
+#[derive(Clone, Copy)]
 pub struct Piece {
     pub size: usize,
     pub first: u8,

@@ -1,4 +1,5 @@
 // Reads tables built here, and prints the name of each with its number, and its counts where it is accepted.
+#![tactic(auto)]
 mod build; // build.rt: tables made of commands
 
 use build::{Built, Piece};

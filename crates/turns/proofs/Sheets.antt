@@ -27,19 +27,19 @@ unfolding list_from
 length_list_from zero k f = refl
 length_list_from (suc n) k f = ap suc (length_list_from n (suc k) f)
 
-get_d_from : {A : Type 0} (n k : ℕ) (f : ℕ → A) (j : ℕ) (d : A) → j < n → get_or (list_from n k f) j d ≡ f (k + j)
+get_or_from : {A : Type 0} (n k : ℕ) (f : ℕ → A) (j : ℕ) (d : A) → j < n → get_or (list_from n k f) j d ≡ f (k + j)
 unfolding list_from
-get_d_from zero k f j d h = absurd (not-suc-le-zero h)
-get_d_from (suc n) k f zero d h = ap f (omega arith)
-get_d_from (suc n) k f (suc j) d h = get_d_from n (suc k) f j d (le_of_suc-le-suc h) ∙ ap f (omega arith)
+get_or_from zero k f j d h = absurd (not-suc-le-zero h)
+get_or_from (suc n) k f zero d h = ap f (omega arith)
+get_or_from (suc n) k f (suc j) d h = get_or_from n (suc k) f j d (le_of_suc-le-suc h) ∙ ap f (omega arith)
 
-get_d_list_from : {A : Type 0} (n : ℕ) (f : ℕ → A) (j : ℕ) (d : A) → j < n → get_or (list_from n 0 f) j d ≡ f j
-get_d_list_from n f j d h = get_d_from n 0 f j d h ∙ ap f (omega arith)
+get_or_list_from : {A : Type 0} (n : ℕ) (f : ℕ → A) (j : ℕ) (d : A) → j < n → get_or (list_from n 0 f) j d ≡ f j
+get_or_list_from n f j d h = get_or_from n 0 f j d h ∙ ap f (omega arith)
 
 -- A list by its elements.
 listed : {A : Type 0} (n : ℕ) (f : ℕ → A) (l : List A) (d : A) → length l ≡ n → ((j : ℕ) → j < n → get_or l j d ≡ f j) → l ≡ list_from n 0 f
 listed n f l d e h =
-    ext_get_or d l (list_from n 0 f) (e ∙ sym (length_list_from n 0 f)) (λ j m. let q : j < n = omega arith in h j q ∙ sym (get_d_list_from n f j d q))
+    ext_get_or d l (list_from n 0 f) (e ∙ sym (length_list_from n 0 f)) (λ j m. let q : j < n = omega arith in h j q ∙ sym (get_or_list_from n f j d q))
 
 -- ONE ROW
 
@@ -114,7 +114,7 @@ sheet_size s = length_list_from 64 0 (λ i. row_of (act s i).holds)
 
 pub sheet_at : (s : State) (i : ℕ) (d : List ℕ) → i < 64 → get_or (sheet_of s) i d ≡ row_of (act s i).holds
 unfolding sheet_of
-sheet_at s i d h = get_d_list_from 64 (λ j. row_of (act s j).holds) i d h
+sheet_at s i d h = get_or_list_from 64 (λ j. row_of (act s j).holds) i d h
 
 -- Sixty-four rows by activity number are the sheet.
 pub sheet_rows : (s : State) (rows : List (List ℕ)) (d : List ℕ) → length rows ≡ 64 → ((i : ℕ) → i < 64 → get_or rows i d ≡ row_of (act s i).holds) → rows ≡ sheet_of s

@@ -1,4 +1,5 @@
 // Turns in the lent bytes: numbers 14 to 16, or the command's function, and orders of turns; the ready set and the standing sheet.
+#![tactic(auto)]
 ghost use Rattle.std.specs.Prelude.{◌≡◌};
 ghost use Rattle.turns.specs.Turns.{CarriesIn, TurnsAny};
 
@@ -28,7 +29,7 @@ pub mod sheet; // sheet.rt: the standing sheet
 pub mod follow; // follow.rt: an order of turns
 
 // What a turn answers, and how many its activity waits for.
-#[derive(Drop)]
+#[derive(Clone, Copy)]
 pub struct Reply {
     pub number: u8,
     pub awaited: u8,

@@ -10,7 +10,7 @@ use fields::bytes::get1;
 use fields::counts::activities_of;
 
 // How many inside have not ended, and whether one has faulted.
-#[derive(Drop)]
+#[derive(Clone, Copy)]
 pub struct Inside {
     pub unended: u8,
     pub faulted: bool,

@@ -3,7 +3,7 @@ ghost use Rattle.std.specs.Prelude.{◌≤◌, length};
 ghost use Rattle.io.specs.Counts.{IsPrefixLen};
 
 // What a read gave: whether it failed, and how many bytes came.
-#[derive(Drop)]
+#[derive(Clone, Copy)]
 struct Came {
     failed: bool,
     bytes: usize,

@@ -1,4 +1,5 @@
 // Walks through a job: reads the files JOB and ORDER, and prints a line for each byte of the order and a total.
+#![tactic(auto)]
 ghost use Rattle.std.specs.Prelude.{◌≤◌, length};
 
 mod files; // files.rt: a file read whole

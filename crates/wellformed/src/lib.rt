@@ -1,4 +1,5 @@
 // Number 13 of document 01: whether a state is fit for its table.
+#![tactic(auto)]
 ghost use Rattle.std.specs.Prelude.{◌≡◌};
 ghost use Rattle.program.specs.Bodies.{program_of};
 ghost use Rattle.program.specs.Table.{work_limit, number_of, table_of};
@@ -17,7 +18,7 @@ mod within; // within.rt: an activity that was spawned, in its bytes
 mod lent; // lent.rt: the bytes of a state
 
 // The number 1 to 13 for which a table or a state is turned down, or 0; and the table as it was read.
-#[derive(Drop)]
+#[derive(Clone, Copy)]
 pub struct Checked {
     pub number: u8,
     pub table: Table,

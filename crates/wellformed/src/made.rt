@@ -1,5 +1,5 @@
 // How many activities, clocks and accumulators were made.
-#[derive(Drop)]
+#[derive(Clone, Copy)]
 pub struct Made {
     pub activities: u8,
     pub clocks: u8,
