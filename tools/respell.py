@@ -4,7 +4,7 @@
 It reads the names that the files of specs/ and the lemma files of proofs/ declare, makes `sum_over` of `sumOver` and `tally_deep` of `tally-deep`, and turns whole
 words alone: in .antt files, in clauses, `ghost use` items and comments of .rt files, in the texts of must-fail edits, and in code spans of pages. Types and modules
 keep their capitals; functions of src/, names that C sees, strings, inputs and outputs are not touched. A name with a dash that Rattle makes (in proofs/FUNCTION/)
-is none of these. A lemma that would get its definition's name ends in `_lem`. Where a name would meet another word of the proofs, KEPT says what it is called.
+is none of these, and a name that a file imports from a library of the kit stays in that file. A lemma that would get its definition's name ends in `_lem`. Where a name would meet another word of the proofs, KEPT says what it is called.
 """
 
 import os
@@ -17,6 +17,7 @@ WORD = re.compile(r"(?<![\w'’\-◌])[a-z][\w']*(?:-[\w']+)*(?![\w'\-◌])")
 CLAUSE = re.compile(r"(?:requires|ensures)\s*\*?\s*(?:\w+\s*)?\{|ghost\s*\w*\s*:?\s*\{")
 GHOST_USE = re.compile(r"ghost\s+use\b[^;]*;")
 SPAN = re.compile(r"`[^`\n]*`")
+OF_A_LIBRARY = re.compile(r"(?m)^use (?!Rattle\.(?!std\b))[\w.]+\.\{([^}]*)\}")
 OF_A_FUNCTION = ("Proof.antt", "Answers.antt", "Invariants.antt")
 
 # Names that would meet another word, and what they are called.
@@ -124,6 +125,8 @@ def turned_rt(text, rows):
 
 
 def turned_antt(text, rows, of_a_function):
+    foreign = {n.strip() for names in OF_A_LIBRARY.findall(text) for n in names.split(",")}
+    rows = {k: v for k, v in rows.items() if k not in foreign}
     plain = {k: v for k, v in rows.items() if "-" not in k}
     out = []
     for line in text.split("\n"):

@@ -7,7 +7,7 @@ use lib.ListN.{length, get_or, take, drop}
 use lib.Seq.{drop_at}
 use Rattle.program.specs.Command.{row_at, opcode, width}
 use Rattle.program.specs.Reading.{read, commands_of}
-use Rattle.program.specs.Scan.{scan}
+use Rattle.program.specs.Scan.{scan, body_after}
 use Rattle.program.specs.declared.command.Command.{Command}
 use Rattle.program.specs.declared.reading.Reading.TheVariants.{Whole}
 use Rattle.program.proofs.Basic.{apart}
@@ -43,10 +43,10 @@ unfolding bytes_of
 listed_entries_lem [] five e (over h) = refl
 listed_entries_lem [] five e (next inside own fits r) = none_read e own
 listed_entries_lem (l ∷ entries) five e (over h) = some_bytes (bytes_of entries) (five_bytes l (five 0 (omega arith))) e
-listed_entries_lem (l ∷ entries) five e (next {s = s} {c = c} {cs = cs} inside own fits r) =
+listed_entries_lem {n = n} {i = i} {left = left} (l ∷ entries) {s = s} five e (next {c = c} {cs = cs} inside own fits r) =
     let a = entry_read (five_bytes l (five 0 (omega arith))) (bytes_of entries) (rw e at own) in
     let rest : drop (width c) s ≡ bytes_of entries = rw e (drop_at (bytes_in l) (bytes_of entries) (width c) a.long) in
-    let later : cs ≡ map command_in entries = listed_entries_lem entries (λ i h. five (suc i) (omega arith)) rest r in
+    let later : cs ≡ map command_in entries = listed_entries_lem {i = body_after i c} entries (λ i h. five (suc i) (omega arith)) rest r in
     rw (a.same, later)
 
 -- "reading its bytes yields the list"

@@ -4,7 +4,7 @@ use native.Mathlib.Omega.{arith}
 use native.Mathlib.Decide.{dec_lt, ℕ_discrete}
 use mathlib.Core.Path.{◌≡◌, refl, sym, ap, ◌∙◌}
 use mathlib.Core.List.{List}
-use mathlib.Core.Bool.{Bool, true, false, ◌||◌, ◌&&◌, and_false, or_false}
+use mathlib.Core.Bool.{Bool, true, false, ◌||◌, ◌&&◌, and-false, or-false}
 use lib.ListN.{length, get_or, take, drop, set, replicate, length-set, get_or-replicate, get_or-eq_default}
 use lib.Seq.{get_or-set_same, get_or-set_other}
 use lib.Dec.{ltb, eqb}
@@ -168,7 +168,7 @@ module _ {b : List ℕ} {i : ℕ} where
               in
               let here : f n ≡ ltb place v = rw (← q, held, t, e) in
               let long : h.clock < length own = omega arith in
-              rw u (ap (λ (z : ℕ). ltb place z) (get_or-set_same own h.clock v 0 long)) ∙ sym (some_more n f ∙ rw before (or_false (f n)) ∙ here)
+              rw u (ap (λ (z : ℕ). ltb place z) (get_or-set_same own h.clock v 0 long)) ∙ sym (some_more n f ∙ rw before (or-false (f n)) ∙ here)
           go s l j k c place false t =
               let a = act s i in
               let f = keeps_by a c place in
@@ -219,7 +219,7 @@ module _ {own b : List ℕ} {r : ℕ} (registration : r ≡ get_or b 5 0) where
           λ h q w.
           let e = clock ∙ clock_in h q in
           let z : get_or own h.clock 0 ≡ 0 = get_or-eq_default own 0 {n = h.clock} (omega arith) in
-          rw (z, le-ltb (place_of h) 0 (omega arith)) (sym (and_false (is_held h.registration)));
+          rw (z, le-ltb (place_of h) 0 (omega arith)) (sym (and-false (is_held h.registration)));
     }
 
     pub late_by : {x y : ℕ} → (r ≡ 0 → ⊥) → x ≡ get_or b 0 0 → y ≡ get_or b 1 0 → Late own b (ltb (2 * (x + 256 * y) + r) (get_or own c 0))
