@@ -1,0 +1,24 @@
+-- The first n commands are passed.
+use Prim.Native.Nat.{◌+◌, ◌-◌, ◌≤◌, ◌<◌}
+use native.Mathlib.Omega.{arith}
+use borrow.Author.Rules.{rules}
+use lib.ListN.{length}
+use Rattle.builder.proofs.Walking.{Walking, walking_none, walking_done, walking_fits, walking_on}
+use Rattle.builder.proofs.commands.count.Goals as goal
+
+pub loop-at-preserved : goal.loop-at-preserved
+loop-at-preserved c = walking_on c.loop-at.invariant c.loop-at-test.true c.width_at-at.ensures
+
+pub returns : goal.returns
+returns c =
+    let w = c.loop-at.invariant in
+    omega (arith, w.within, walking_done w c.loop-at-test.false)
+
+pub loop-at-init : goal.loop-at-init
+loop-at-init c = ?
+
+pub overflow_add-at : goal.overflow_add-at
+overflow_add-at c = ?
+
+pub loop-at-smaller : goal.loop-at-smaller
+loop-at-smaller c = ?

@@ -1,0 +1,8 @@
+-- The bytes are those of the definition, one by one.
+use borrow.Author.Rules.{rules}
+use Rattle.builder.specs.Build.{entry_of}
+use Rattle.builder.proofs.entry.entry_of.Goals as goal
+
+pub returns : goal.returns
+unfolding entry_of
+returns c = rw (c.opcode-op.ensures.0, c.operands-bytes.ensures)
