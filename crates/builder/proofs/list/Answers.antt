@@ -12,22 +12,33 @@ use Rattle.builder.proofs.list.Goals as goal
 pub returns-then-read-ne0 : goal.returns-then-read-ne0
 returns-then-read-ne0 c =
     let number-here : c.read_table-read.result.number ≡ number_of work_limit c.args.table.now = ap (λ (x : Table). x.number) c.read_table-read.ensures ∙ table_number work_limit _ in
-    list-refused c.args.table.now c.args.entries.now number-here c.if-read-ne0.true
+    let whole = (list-refused c.args.table.now c.args.entries.now number-here c.if-read-ne0.true) in
+    record { number_value = whole.0; count_value = whole.1.0; entries_after = whole.1.1.0; entries_after_2 = whole.1.1.1 }
 
 pub returns-then-entries-count : goal.returns-then-entries-count
 returns-then-entries-count c =
     let number-here : c.read_table-read.result.number ≡ number_of work_limit c.args.table.now = ap (λ (x : Table). x.number) c.read_table-read.ensures ∙ table_number work_limit _ in
     let accepted : number_of work_limit c.args.table.now ≡ 0 = sym number-here ∙ c.if-read-ne0.false in
-    list-short c.args.table.now c.args.entries.now accepted (omega (arith, c.if-entries-count.true, c.count-count.ensures))
+    let whole = (list-short c.args.table.now c.args.entries.now accepted (omega (arith, c.if-entries-count.true, c.count-count.ensures))) in
+    record { number_value = whole.0; count_value = whole.1.0; entries_after = whole.1.1.0; entries_after_2 = whole.1.1.1 }
 
 pub returns : goal.returns
 returns c =
     let number-here : c.read_table-read.result.number ≡ number_of work_limit c.args.table.now = ap (λ (x : Table). x.number) c.read_table-read.ensures ∙ table_number work_limit _ in
     let accepted : number_of work_limit c.args.table.now ≡ 0 = sym number-here ∙ c.if-read-ne0.false in
-    list_done c.args.table.now c.args.entries.now accepted (λ i. omega (arith, c.type_inv.table.given i)) c.count-count.ensures c.if-entries-count.false c.put.ensures
+    let whole = (list_done c.args.table.now c.args.entries.now accepted (λ i. omega (arith, c.type_inv.table i)) c.count-count.ensures c.if-entries-count.false c.put.ensures) in
+    record { number_value = whole.0; count_value = whole.1.0; entries_after = whole.1.1.0; entries_after_2 = whole.1.1.1 }
 
 pub count-count-requires : goal.count-count-requires
-count-count-requires c = ?
+count-count-requires c =
+    let number-here : c.read_table-read.result.number ≡ number_of work_limit c.args.table.now = ap (λ (x : Table). x.number) c.read_table-read.ensures ∙ table_number work_limit _ in
+    let accepted : number_of work_limit c.args.table.now ≡ 0 = sym number-here ∙ c.if-read-ne0.false in
+    let passed : scan c.args.table.now ≡ 0 = numbered work_limit _ accepted in
+    passed
 
 pub put-requires : goal.put-requires
-put-requires c = ?
+put-requires c =
+    let number-here : c.read_table-read.result.number ≡ number_of work_limit c.args.table.now = ap (λ (x : Table). x.number) c.read_table-read.ensures ∙ table_number work_limit _ in
+    let accepted : number_of work_limit c.args.table.now ≡ 0 = sym number-here ∙ c.if-read-ne0.false in
+    let passed : scan c.args.table.now ≡ 0 = numbered work_limit _ accepted in
+    (passed, omega (arith, c.if-entries-count.false, c.count-count.ensures))

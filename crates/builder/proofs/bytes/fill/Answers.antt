@@ -26,7 +26,13 @@ pub returns : goal.returns
 returns c = filling_done c.loop-i.invariant c.loop-i-test.false
 
 pub overflow_add-at : goal.overflow_add-at
-overflow_add-at c = ?
+overflow_add-at c =
+    let small : c.size_of-size.result < 6 = omega (arith, c.size_of-size.ensures.0, width_few (get_or (get_or c.args.entries.now c.loop-i.i []) 0 0)) in
+    omega (arith, small, c.loop-i.invariant.room)
 
 pub put_entry-requires : goal.put_entry-requires
-put_entry-requires c = ?
+put_entry-requires c =
+    let small : c.size_of-size.result < 6 = omega (arith, c.size_of-size.ensures.0, width_few (get_or (get_or c.args.entries.now c.loop-i.i []) 0 0)) in
+    let part-long : length (take (c.loop-i.at + c.size_of-size.result - c.loop-i.at) (drop c.loop-i.at c.loop-i.out)) ≡ c.size_of-size.result = (let f = c.loop-i.invariant in
+    rw (add-sub_cancel_left, length-take-le c.size_of-size.result (drop c.loop-i.at c.loop-i.out) (rw length-drop (omega (arith, f.full, c.if-at-size-gt2048.false))))) in
+    omega (arith, part-long, small)

@@ -15,10 +15,15 @@ returns c =
     omega (arith, w.within, walking_done w c.loop-at-test.false)
 
 pub loop-at-init : goal.loop-at-init
-loop-at-init c = ?
+loop-at-init c =
+    walking_none _ c.requires
 
 pub overflow_add-at : goal.overflow_add-at
-overflow_add-at c = ?
+overflow_add-at c =
+    let fits-here : (0 < c.width_at-at.result) × (c.loop-at.at + c.width_at-at.result ≤ length c.args.table.now) = walking_fits c.loop-at.invariant c.loop-at-test.true c.width_at-at.ensures in
+    omega (arith, fits-here)
 
 pub loop-at-smaller : goal.loop-at-smaller
-loop-at-smaller c = ?
+loop-at-smaller c =
+    let fits-here : (0 < c.width_at-at.result) × (c.loop-at.at + c.width_at-at.result ≤ length c.args.table.now) = walking_fits c.loop-at.invariant c.loop-at-test.true c.width_at-at.ensures in
+    omega (arith, fits-here)

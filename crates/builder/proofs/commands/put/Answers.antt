@@ -32,13 +32,23 @@ returns c =
     c.loop-at.invariant.1 ∙ copied_all _ _ c.loop-at.i (omega arith) (omega (arith, w.within)) ∙ rw m
 
 pub loop-at-init : goal.loop-at-init
-loop-at-init c = ?
+loop-at-init c =
+    (walking_none _ c.requires.0, refl)
 
 pub bounds-entries-i : goal.bounds-entries-i
-bounds-entries-i c = ?
+bounds-entries-i c =
+    let long : length c.loop-at.entries ≡ length c.args.entries.now = (let w = c.loop-at.invariant.0 in
+    let m = length-map (commands_of c.args.table.now) entry_of in
+    ap length c.loop-at.invariant.1 ∙ copied_long _ _ c.loop-at.i (omega (arith, w.within)) (omega (arith, w.within, c.requires.1))) in
+    let room : c.loop-at.i < length c.loop-at.entries = omega (arith, walking_below c.loop-at.invariant.0 c.loop-at-test.true, long, c.requires.1) in
+    room
 
 pub overflow_add-at : goal.overflow_add-at
-overflow_add-at c = ?
+overflow_add-at c =
+    let fits-here : (0 < c.width_at-at.result) × (c.loop-at.at + c.width_at-at.result ≤ length c.args.table.now) = walking_fits c.loop-at.invariant.0 c.loop-at-test.true c.width_at-at.ensures in
+    omega (arith, fits-here)
 
 pub loop-at-smaller : goal.loop-at-smaller
-loop-at-smaller c = ?
+loop-at-smaller c =
+    let fits-here : (0 < c.width_at-at.result) × (c.loop-at.at + c.width_at-at.result ≤ length c.args.table.now) = walking_fits c.loop-at.invariant.0 c.loop-at-test.true c.width_at-at.ensures in
+    omega (arith, fits-here)
