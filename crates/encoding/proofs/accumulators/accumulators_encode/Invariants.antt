@@ -1,0 +1,12 @@
+-- The parts from i on decide.
+use Prim.Native.Nat.{◌-◌}
+use native.Mathlib.Omega.{arith}
+use Rattle.encoding.specs.Decode.{accumulator_encodes}
+use Rattle.encoding.proofs.PartLaws.{turn_sized, Passing, pass_none, pass_on, pass_not, pass_done}
+use Rattle.encoding.proofs.accumulators.accumulators_encode.Given as goal
+
+abbrev pub invariant-loop-i : goal.invariant-loop-i
+invariant-loop-i l = Passing accumulator_encodes l.bytes 24 16 l.i
+
+abbrev pub decreases-loop-i : goal.decreases-loop-i
+decreases-loop-i l = 16 - l.i

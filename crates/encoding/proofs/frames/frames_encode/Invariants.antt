@@ -1,0 +1,12 @@
+-- The parts from i on decide.
+use Prim.Native.Nat.{◌-◌}
+use native.Mathlib.Omega.{arith}
+use Rattle.encoding.specs.Decode.{frame_encodes}
+use Rattle.encoding.proofs.PartLaws.{turn_sized, Passing, pass_none, pass_on, pass_not, pass_done}
+use Rattle.encoding.proofs.frames.frames_encode.Given as goal
+
+abbrev pub invariant-loop-i : goal.invariant-loop-i
+invariant-loop-i l = Passing frame_encodes l.bytes 8 16 l.i
+
+abbrev pub decreases-loop-i : goal.decreases-loop-i
+decreases-loop-i l = 16 - l.i

@@ -1,0 +1,16 @@
+-- The parts from i on decide.
+use Prim.Native.Nat.{◌-◌}
+use native.Mathlib.Omega.{arith}
+use Rattle.encoding.specs.Decode.{hold_encodes}
+use Rattle.encoding.proofs.PartLaws.{turn_sized, Passing, pass_none, pass_on, pass_not, pass_done}
+use Rattle.encoding.proofs.holds.holds_encode.Goals as goal
+
+pub loop-i-preserved : goal.loop-i-preserved
+loop-i-preserved c = pass_on c.loop-i.invariant c.loop-i-test.true c.hold_encodes.ensures c.if-hold_encodes.true
+
+pub returns-else-hold_encodes : goal.returns-else-hold_encodes
+returns-else-hold_encodes c = pass_not c.loop-i.invariant c.loop-i-test.true c.hold_encodes.ensures c.if-hold_encodes.false
+
+pub returns : goal.returns
+returns c =
+    pass_done c.loop-i.invariant c.loop-i-test.false
