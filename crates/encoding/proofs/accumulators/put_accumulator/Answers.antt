@@ -16,13 +16,9 @@ use Rattle.encoding.proofs.accumulators.put_accumulator.Goals as goal
 pub returns : goal.returns
 unfolding encode_accumulator bytes_of
 returns c =
-    let headed-bytes : List ℕ = (let a = c.args in
-    set (set (put_mid 0 4 a.out.now c.put_number.new.out) 4 a.a.owner) 5 c.operator_number-o.result) in
+    let headed-bytes : List ℕ = set (set (put_mid 0 4 c.args.out.now c.put_number.new.out) 4 c.args.a.owner) 5 c.operator_number-o.result in
     let accumulator-of : Accumulator = c.args.a in
-    let headed : Upto headed-bytes 24 6 (bytes_of 4 accumulator-of.value ++ (accumulator-of.owner ∷ []) ++ (operator_number accumulator-of.operator ∷ [])) = (let w = c.put_number in
-    let a = put_of 4 (λ k. bytes_of k c.args.a.value) w.new.1.0 (none_yet c.args.out.now 24 c.requires) (omega arith) w.auto.1.0 w.ensures in
-    let r = c.operator_number-o in
-    store_as r.result (operator_number c.args.a.operator) r.ensures (store c.args.a.owner a (omega arith)) (omega arith)) in
-    let zeroed : Upto (put_mid 6 18 headed-bytes c.put_zeros.new.out) 24 24 (encode_accumulator accumulator-of) = (let w = c.put_zeros in
-    put_of 18 (λ k. replicate k 0) w.new.0 headed (omega arith) w.auto.0 w.ensures) in
+    let headed : Upto headed-bytes 24 6 (bytes_of 4 accumulator-of.value ++ (accumulator-of.owner ∷ []) ++ (operator_number accumulator-of.operator ∷ [])) = (let a = put_of 4 (λ k. bytes_of k c.args.a.value) c.put_number.new.out (none_yet c.args.out.now 24 c.requires) (omega arith) c.put_number.auto.out c.put_number.ensures in
+    store_as c.operator_number-o.result (operator_number c.args.a.operator) c.operator_number-o.ensures (store c.args.a.owner a (omega arith)) (omega arith)) in
+    let zeroed : Upto (put_mid 6 18 headed-bytes c.put_zeros.new.out) 24 24 (encode_accumulator accumulator-of) = put_of 18 (λ k. replicate k 0) c.put_zeros.new.out headed (omega arith) c.put_zeros.auto.out c.put_zeros.ensures in
     all zeroed

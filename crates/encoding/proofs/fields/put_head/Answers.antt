@@ -24,16 +24,13 @@ and-cells s = and-zeros s ++ encode_each (bytes_of 4) s.cells
 
 pub returns : goal.returns
 returns c =
-    let numbered-bytes : List ℕ = (let s = c.args.s in
-    put_mid 4 4 (set (set (set (set c.args.out.now 0 1) 1 s.activities) 2 s.clocks) 3 s.accumulators) c.put_number.new.out) in
-    let numbered : Upto numbered-bytes 464 8 (numbers c.args.s) = (let s = c.args.s in
-    let w = c.put_number in
-    let two = store s.activities (store 1 (none_yet c.args.out.now 464 c.requires) (omega arith)) (omega arith) in
-    put_of 4 (λ k. bytes_of k s.steps) w.new.1.0 (store s.accumulators (store s.clocks two (omega arith)) (omega arith)) (omega arith) w.auto.1.0 w.ensures) in
+    let numbered-bytes : List ℕ = put_mid 4 4 (set (set (set (set c.args.out.now 0 1) 1 c.args.s.activities) 2 c.args.s.clocks) 3 c.args.s.accumulators) c.put_number.new.out in
+    let numbered : Upto numbered-bytes 464 8 (numbers c.args.s) = (let two = store c.args.s.activities (store 1 (none_yet c.args.out.now 464 c.requires) (omega arith)) (omega arith) in
+    put_of 4 (λ k. bytes_of k c.args.s.steps) c.put_number.new.out (store c.args.s.accumulators (store c.args.s.clocks two (omega arith)) (omega arith)) (omega arith) c.put_number.auto.out c.put_number.ensures) in
     let zeroed-bytes : List ℕ = put_mid 8 8 numbered-bytes c.put_zeros.new.out in
-    let zeroed : Upto zeroed-bytes 464 16 (and-zeros c.args.s) = let w = c.put_zeros in put_of 8 (λ k. replicate k 0) w.new.0 numbered (omega arith) w.auto.0 w.ensures in
+    let zeroed : Upto zeroed-bytes 464 16 (and-zeros c.args.s) = put_of 8 (λ k. replicate k 0) c.put_zeros.new.out numbered (omega arith) c.put_zeros.auto.out c.put_zeros.ensures in
     let celled-bytes : List ℕ = put_mid 16 64 zeroed-bytes c.put_cells.new.out in
-    let celled : Upto celled-bytes 464 80 (and-cells c.args.s) = let w = c.put_cells in put 64 64 w.new.1.0 _ zeroed (omega arith) refl w.auto.1.0 w.ensures in
+    let celled : Upto celled-bytes 464 80 (and-cells c.args.s) = put 64 64 c.put_cells.new.out _ zeroed (omega arith) refl c.put_cells.auto.out c.put_cells.ensures in
     let accumulated-bytes : List ℕ = put_mid 80 384 celled-bytes c.put_accumulators.new.out in
-    let accumulated : Upto accumulated-bytes 464 464 (encode_head c.args.s) = let w = c.put_accumulators in put 384 384 w.new.1.0 _ celled (omega arith) refl w.auto.1.0 w.ensures in
+    let accumulated : Upto accumulated-bytes 464 464 (encode_head c.args.s) = put 384 384 c.put_accumulators.new.out _ celled (omega arith) refl c.put_accumulators.auto.out c.put_accumulators.ensures in
     all accumulated

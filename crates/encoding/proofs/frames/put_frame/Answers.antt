@@ -15,12 +15,9 @@ use Rattle.encoding.proofs.frames.put_frame.Goals as goal
 pub returns : goal.returns
 unfolding encode_frame bytes_of
 returns c =
-    let headed-bytes : List ℕ = (let a = c.args in
-    set (set (set (put_mid 0 2 a.out.now c.put_number.new.out) 2 a.f.body) 3 a.f.runs) 4 a.f.first) in
+    let headed-bytes : List ℕ = set (set (set (put_mid 0 2 c.args.out.now c.put_number.new.out) 2 c.args.f.body) 3 c.args.f.runs) 4 c.args.f.first in
     let frame-of : Frame = c.args.f in
-    let headed : Upto headed-bytes 8 5 (bytes_of 2 frame-of.offset ++ (frame-of.body ∷ []) ++ (frame-of.runs ∷ []) ++ (frame-of.first ∷ [])) = (let w = c.put_number in
-    let a = put_of 2 (λ k. bytes_of k c.args.f.offset) w.new.1.0 (none_yet c.args.out.now 8 c.requires) (omega arith) w.auto.1.0 w.ensures in
+    let headed : Upto headed-bytes 8 5 (bytes_of 2 frame-of.offset ++ (frame-of.body ∷ []) ++ (frame-of.runs ∷ []) ++ (frame-of.first ∷ [])) = (let a = put_of 2 (λ k. bytes_of k c.args.f.offset) c.put_number.new.out (none_yet c.args.out.now 8 c.requires) (omega arith) c.put_number.auto.out c.put_number.ensures in
     store c.args.f.first (store c.args.f.runs (store c.args.f.body a (omega arith)) (omega arith)) (omega arith)) in
-    let zeroed : Upto (put_mid 5 3 headed-bytes c.put_zeros.new.out) 8 8 (encode_frame frame-of) = (let w = c.put_zeros in
-    put_of 3 (λ k. replicate k 0) w.new.0 headed (omega arith) w.auto.0 w.ensures) in
+    let zeroed : Upto (put_mid 5 3 headed-bytes c.put_zeros.new.out) 8 8 (encode_frame frame-of) = put_of 3 (λ k. replicate k 0) c.put_zeros.new.out headed (omega arith) c.put_zeros.auto.out c.put_zeros.ensures in
     all zeroed

@@ -11,7 +11,4 @@ pub loop-i-init : goal.loop-i-init
 loop-i-init c = write_none encode_frame c.args.frames 8 16 _ c.requires
 
 pub loop-i-preserved : goal.loop-i-preserved
-loop-i-preserved c =
-    let l = c.loop-i in
-    let w = c.put_frame in
-    write_more encode_frame _ 8 16 l.i _ _ w.new.1.0 l.invariant (search rules) c.loop-i-test.true w.auto.1.0 w.ensures
+loop-i-preserved c = write_more encode_frame _ 8 16 c.loop-i.i _ _ c.put_frame.new.out c.loop-i.invariant (search rules) c.loop-i-test.true c.put_frame.auto.out c.put_frame.ensures

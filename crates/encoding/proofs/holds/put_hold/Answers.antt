@@ -16,13 +16,9 @@ use Rattle.encoding.proofs.holds.put_hold.Goals as goal
 pub returns : goal.returns
 unfolding encode_hold bytes_of
 returns c =
-    let headed-bytes : List ℕ = (let a = c.args in
-    set (set (put_mid 0 4 a.out.now c.put_number.new.out) 4 a.h.clock) 5 c.registration_number-r.result) in
+    let headed-bytes : List ℕ = set (set (put_mid 0 4 c.args.out.now c.put_number.new.out) 4 c.args.h.clock) 5 c.registration_number-r.result in
     let hold-of : Hold = c.args.h in
-    let headed : Upto headed-bytes 8 6 (bytes_of 4 hold-of.phase ++ (hold-of.clock ∷ []) ++ (registration_number hold-of.registration ∷ [])) = (let w = c.put_number in
-    let a = put_of 4 (λ k. bytes_of k c.args.h.phase) w.new.1.0 (none_yet c.args.out.now 8 c.requires) (omega arith) w.auto.1.0 w.ensures in
-    let r = c.registration_number-r in
-    store_as r.result (registration_number c.args.h.registration) r.ensures (store c.args.h.clock a (omega arith)) (omega arith)) in
-    let zeroed : Upto (put_mid 6 2 headed-bytes c.put_zeros.new.out) 8 8 (encode_hold hold-of) = (let w = c.put_zeros in
-    put_of 2 (λ k. replicate k 0) w.new.0 headed (omega arith) w.auto.0 w.ensures) in
+    let headed : Upto headed-bytes 8 6 (bytes_of 4 hold-of.phase ++ (hold-of.clock ∷ []) ++ (registration_number hold-of.registration ∷ [])) = (let a = put_of 4 (λ k. bytes_of k c.args.h.phase) c.put_number.new.out (none_yet c.args.out.now 8 c.requires) (omega arith) c.put_number.auto.out c.put_number.ensures in
+    store_as c.registration_number-r.result (registration_number c.args.h.registration) c.registration_number-r.ensures (store c.args.h.clock a (omega arith)) (omega arith)) in
+    let zeroed : Upto (put_mid 6 2 headed-bytes c.put_zeros.new.out) 8 8 (encode_hold hold-of) = put_of 2 (λ k. replicate k 0) c.put_zeros.new.out headed (omega arith) c.put_zeros.auto.out c.put_zeros.ensures in
     all zeroed

@@ -13,8 +13,5 @@ loop-i-init c = write_none (bytes_of 4) c.args.cells 4 16 _ c.requires
 
 pub loop-i-preserved : goal.loop-i-preserved
 loop-i-preserved c =
-    let taken = c.loop-i-test.true in
-    let l = c.loop-i in
-    let w = c.put_number in
-    write_more (bytes_of 4) _ 4 16 l.i 0 l.out w.new.1.0 l.invariant (search rules) taken w.auto.1.0
-    (w.ensures ∙ ap (λ k. bytes_of k (get_or c.args.cells l.i 0)) (turn_sized l.out 4 l.i 16 l.invariant.1.full taken))
+    write_more (bytes_of 4) _ 4 16 c.loop-i.i 0 c.loop-i.out c.put_number.new.out c.loop-i.invariant (search rules) c.loop-i-test.true c.put_number.auto.out
+    (c.put_number.ensures ∙ ap (λ k. bytes_of k (get_or c.args.cells c.loop-i.i 0)) (turn_sized c.loop-i.out 4 c.loop-i.i 16 c.loop-i.invariant.1.full c.loop-i-test.true))

@@ -1,0 +1,8 @@
+-- One byte.
+use native.Mathlib.Omega.{arith}
+use Rattle.fields.proofs.Own.{name_read}
+use borrow.Author.Rules.{rules}
+use Rattle.fields.proofs.activities.name_at.Goals as goal
+
+pub returns : goal.returns
+returns c = λ h. record { reads = λ s l j. name_read l j h c.get1.ensures (omega arith) }

@@ -1,0 +1,8 @@
+-- Four bytes.
+use native.Mathlib.Omega.{arith}
+use Rattle.fields.proofs.Head.{cell_there}
+use borrow.Author.Rules.{rules}
+use Rattle.fields.proofs.cells.cell_at.Goals as goal
+
+pub returns : goal.returns
+returns c = λ h. record { reads = λ s l. cell_there l h c.get4.ensures (omega arith) }

@@ -1,0 +1,8 @@
+-- Four bytes.
+use native.Mathlib.Omega.{arith}
+use Rattle.fields.proofs.Head.{cell_write}
+use borrow.Author.Rules.{rules}
+use Rattle.fields.proofs.cells.put_cell.Goals as goal
+
+pub returns : goal.returns
+returns c = λ h. record { writes = λ s l. cell_write l h c.put4.ensures (omega arith) (omega arith) }

@@ -1,0 +1,7 @@
+-- One byte.
+use Rattle.fields.proofs.Head.{activities_there}
+use borrow.Author.Rules.{rules}
+use Rattle.fields.proofs.counts.activities_of.Goals as goal
+
+pub returns : goal.returns
+returns c = record { reads = λ s l. activities_there l c.get1.ensures }

@@ -1,0 +1,7 @@
+-- One byte.
+use Rattle.fields.proofs.Head.{clocks_there}
+use borrow.Author.Rules.{rules}
+use Rattle.fields.proofs.counts.clocks_of.Goals as goal
+
+pub returns : goal.returns
+returns c = record { reads = λ s l. clocks_there l c.get1.ensures }

@@ -1,0 +1,8 @@
+-- Four bytes.
+use native.Mathlib.Omega.{arith}
+use Rattle.fields.proofs.Head.{steps_put}
+use borrow.Author.Rules.{rules}
+use Rattle.fields.proofs.counts.put_steps.Goals as goal
+
+pub returns : goal.returns
+returns c = record { writes = λ s l. steps_put l c.put4.ensures (omega arith) }

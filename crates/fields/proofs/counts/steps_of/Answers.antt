@@ -1,0 +1,7 @@
+-- The two lower bytes of four.
+use Rattle.fields.proofs.Head.{steps_there}
+use borrow.Author.Rules.{rules}
+use Rattle.fields.proofs.counts.steps_of.Goals as goal
+
+pub returns : goal.returns
+returns c = record { reads = λ s l. steps_there l c.get2.ensures }

@@ -1,0 +1,11 @@
+-- Two bytes.
+use native.Mathlib.Omega.{arith}
+use mathlib.Core.Path.{◌∙◌}
+use Rattle.rules.specs.State.{act, frame}
+use Rattle.fields.proofs.Stands.{mine}
+use Rattle.fields.proofs.Own.{frame_number, offset_there}
+use borrow.Author.Rules.{rules}
+use Rattle.fields.proofs.frames.offset_at.Goals as goal
+
+pub returns : goal.returns
+returns c = λ h. record { reads = λ s l j. frame_number l j h 0 2 c.get2.ensures (omega arith) (omega arith) ∙ offset_there (frame (act s _) _) ((mine l j).offsets _) }

@@ -1,0 +1,16 @@
+-- A search over the eight.
+use Rattle.std.proofs.Common.{◌-◌, ◌≤◌, false, sym, refl, ap, ◌∙◌, arith, rules}
+use Rattle.rules.specs.declared.state.Hold.{Hold}
+use Rattle.rules.specs.declared.state.Activity.{Activity}
+use Rattle.rules.specs.Search.{some_below}
+use Rattle.rules.specs.State.{act}
+use Rattle.places.proofs.Searches.{found, passed, none}
+use Rattle.rules.specs.Clocks.{holds, is_held, holds_some}
+use Rattle.fields.specs.Lent.{ReadsAct}
+use Rattle.moves.proofs.faults.holds_some.Given as goal
+
+abbrev pub invariant-loop-k : goal.invariant-loop-k
+invariant-loop-k l = (l.k ≤ 8) × ReadsAct (λ (a : Activity). some_below l.k (holds a)) l.state l.i false
+
+abbrev pub decreases-loop-k : goal.decreases-loop-k
+decreases-loop-k l = 8 - l.k
