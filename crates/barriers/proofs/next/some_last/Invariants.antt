@@ -1,0 +1,19 @@
+-- A search over the eight.
+use Prim.Native.Nat.{◌-◌, ◌≤◌}
+use native.Mathlib.Omega.{arith}
+use mathlib.Core.Path.{refl, sym, ap, ◌∙◌}
+use mathlib.Core.Bool.{false}
+use Rattle.rules.specs.declared.state.Activity.{Activity}
+use Rattle.rules.specs.Search.{some_below}
+use Rattle.rules.specs.State.{act, hold}
+use Rattle.places.proofs.Searches.{found, passed, none}
+use Rattle.moves.specs.Exceeding.{is_last, some_last}
+use Rattle.fields.specs.Lent.{ReadsAct}
+use borrow.Author.Rules.{rules}
+use Rattle.barriers.proofs.next.some_last.Given as goal
+
+abbrev pub invariant-loop-k : goal.invariant-loop-k
+invariant-loop-k l = (l.k ≤ 8) × ReadsAct (λ (a : Activity). some_below l.k (λ n. is_last (hold a n))) l.state l.i false
+
+abbrev pub decreases-loop-k : goal.decreases-loop-k
+decreases-loop-k l = 8 - l.k

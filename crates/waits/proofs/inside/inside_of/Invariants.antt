@@ -1,0 +1,12 @@
+-- The invariant: those below x are passed, those of them who are inside and unended counted, and a faulted one found.
+use Prim.Native.Nat.{◌-◌, ◌≤◌, ◌<◌}
+use native.Mathlib.Omega.{arith}
+use Rattle.waits.proofs.Insides.{InsideTo, too_many, nobody_above, nobody_inside, inside_yet, inside_end, not_lower, inside_out, inside_unended, inside_ended, inside_faulted}
+use borrow.Author.Rules.{rules}
+use Rattle.waits.proofs.inside.inside_of.Given as goal
+
+abbrev pub invariant-loop-x : goal.invariant-loop-x
+invariant-loop-x l = (l.w < l.x) × (l.first ≤ l.x) × (l.x ≤ l.made) × InsideTo l.state l.w l.first l.inside l.unended l.faulted l.x
+
+abbrev pub decreases-loop-x : goal.decreases-loop-x
+decreases-loop-x l = l.made - l.x

@@ -1,0 +1,34 @@
+-- Each frame in use is tested in turn, the bytes behind them at once.
+use borrow.Author.Rules.{rules}
+use Prim.Native.Nat.{◌+◌, ◌-◌, ◌*◌}
+use native.Mathlib.Omega.{arith}
+use mathlib.Core.Path.{◌≡◌, ap, ◌∙◌}
+use lib.ListN.{drop}
+use Rattle.program.specs.Bodies.{program_of}
+use Rattle.program.proofs.RangeLaws.{tail_part}
+use Rattle.encoding.specs.Bytes.{all_zero, byte_at}
+use Rattle.wellformed.proofs.Loops.{Passed, none_yet, one_more, so, not_so, part_fails, parts_end}
+use Rattle.wellformed.proofs.WithinLaws.{frame_test, stack_joined, stack_deep, below_at}
+use Rattle.wellformed.proofs.frames.stack_passes.Goals as goal
+
+pub returns-then-depth-gt16 : goal.returns-then-depth-gt16
+returns-then-depth-gt16 c = stack_deep _ _ _ (omega arith)
+
+pub loop-d-init : goal.loop-d-init
+loop-d-init c = none_yet _ _
+
+pub frame_passes-requires : goal.frame_passes-requires
+frame_passes-requires c = (c.requires.0, c.requires.1, omega arith, λ z. below_at _ _ _ c.loop-d.invariant z)
+
+pub loop-d-preserved : goal.loop-d-preserved
+loop-d-preserved c = one_more c.loop-d.invariant (omega arith) (so c.frame_passes.ensures c.if-frame_passes.true)
+
+pub returns-else-frame_passes : goal.returns-else-frame_passes
+returns-else-frame_passes c = part_fails _ _ _ c.loop-d.d (stack_joined _ _ _ (omega arith) c.requires.1) (omega arith) (not_so c.frame_passes.ensures c.if-frame_passes.false)
+
+pub returns : goal.returns
+returns c =
+    let all : c.is_zero.result ≡ all_zero (drop (80 + 8 * byte_at c.args.a.now 7) c.args.a.now) =
+    c.is_zero.ensures ∙ ap all_zero (tail_part c.args.a.now (80 + 8 * c.wide-depth.result)) ∙ ap (λ m. all_zero (drop (80 + 8 * m) c.args.a.now)) c.wide-depth.ensures.0
+    in
+    parts_end (all_zero (drop (80 + 8 * byte_at c.args.a.now 7) c.args.a.now)) (stack_joined _ _ c.args.a.now (omega arith) c.requires.1) c.loop-d.invariant (omega arith) all
