@@ -13,7 +13,7 @@ pub loop-k-init : goal.loop-k-init
 loop-k-init c = (refl, map_none)
 
 pub loop-k-preserved-then-is_held : goal.loop-k-preserved-then-is_held
-loop-k-preserved-then-is_held c = (c.put_hold.auto.state ∙ c.loop-k.invariant.0, map_more c.loop-k.invariant.1 c.loop-k-test.true (c.hold_at-h.ensures c.loop-k-test.true) (λ a y p c. c.quiesce.ensures) (c.put_hold.ensures c.loop-k-test.true))
+loop-k-preserved-then-is_held c = (c.put_hold.auto.state ∙ c.loop-k.invariant.0, map_more c.loop-k.invariant.1 c.loop-k-test.true (c.hold_at-h.ensures c.loop-k-test.true) (λ a y p q. c.quiesce.ensures) (c.put_hold.ensures c.loop-k-test.true))
 
 pub loop-k-preserved : goal.loop-k-preserved
 loop-k-preserved c = (c.loop-k.invariant.0, map_skip c.loop-k.invariant.1 c.loop-k-test.true (c.hold_at-h.ensures c.loop-k-test.true) (quiesce_free _ c.is_held.ensures c.if-is_held.false))

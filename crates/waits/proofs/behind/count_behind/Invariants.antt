@@ -13,3 +13,9 @@ invariant-loop-k l = (l.count ≡ l.initial.count) × NoneLate l.state l.own (l.
 
 abbrev pub decreases-loop-k : goal.decreases-loop-k
 decreases-loop-k l = 8 - l.k
+
+abbrev pub invariant-holders : goal.invariant-holders
+invariant-holders l = (l.x ≤ l.made) × BehindTo l.state l.i l.count l.x
+
+abbrev pub decreases-holders : goal.decreases-holders
+decreases-holders l = l.made - l.x
