@@ -1,7 +1,7 @@
-// Links the archive that `rt staticlib host` writes.
+// Links the archive that `rt lib` writes in crates/host.
 fn main() {
     let root = std::env::var("CARGO_MANIFEST_DIR").unwrap();
-    println!("cargo:rustc-link-search=native={root}/../target/staticlib");
+    println!("cargo:rustc-link-search=native={root}/../crates/host/out");
     println!("cargo:rustc-link-lib=static=host");
-    println!("cargo:rerun-if-changed={root}/../target/staticlib/libhost.a");
+    println!("cargo:rerun-if-changed={root}/../crates/host/out/libhost.a");
 }

@@ -1,5 +1,5 @@
 /* The step machine's calls over lent bytes. The state's layout is in docs/STATE-BYTES.md.
-   Link target/staticlib/libhost.a, which `rt staticlib host` writes, for x86-64.
+   Link crates/host/out/libhost.a, which `rt lib` in crates/host writes, for x86-64.
 
    Each call answers the documents' number: 0, 101 to 108 for fault F1 to F8, or 1 to 18. The table's number 1 to 12 comes first; a state handed
    in that has another length, or bytes that encode no state, give 13. Then a buffer for what the call writes that has another length than

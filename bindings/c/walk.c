@@ -1,4 +1,4 @@
-/* Document 01's printed table, one step a call. Build: cc bindings/c/walk.c target/staticlib/libhost.a -o walk */
+/* Document 01's printed table, one step a call. Build: cc bindings/c/walk.c crates/host/out/libhost.a -o walk */
 #include "stepmachine.h"
 #include <stdio.h>
 

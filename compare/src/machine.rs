@@ -1,4 +1,4 @@
-//! The machine's calls over lent bytes, from the archive that `rt staticlib host` writes.
+//! The machine's calls over lent bytes, from the archive that `rt lib` writes in crates/host.
 
 use reference::bytes::LENGTH;
 

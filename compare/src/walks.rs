@@ -38,9 +38,9 @@ pub fn all_agree(seed: u64) -> Tally {
     tally
 }
 
-/// The program that `rt check walk` writes.
+/// The program that `rt ci` and `rt run` leave.
 fn program() -> PathBuf {
-    Path::new(env!("CARGO_MANIFEST_DIR")).join("../target/bin/walk")
+    Path::new(env!("CARGO_MANIFEST_DIR")).join("../crates/walk/out/walk")
 }
 
 fn random(seed: u64) -> Files {
@@ -99,7 +99,7 @@ fn walk_agrees(folder: &Path, files: &Files) {
         }
     }
     let run = Command::new(program()).current_dir(folder).output();
-    let run = run.expect("target/bin/walk, which `rt check walk` writes");
+    let run = run.expect("crates/walk/out/walk, which `rt ci` and `rt run` leave");
     let of = |file: &Option<Vec<u8>>| file.clone().unwrap_or_default();
     let expected = walk(&of(&files.job), &of(&files.order));
     let place = folder.display();

@@ -1,0 +1,15 @@
+-- Number 17, on, or the body.
+use mathlib.Core.Path.{sym, ◌∙◌}
+use Rattle.moves.proofs.Standings.{over, spent}
+use Rattle.bodies.proofs.Pushing.{choose_none, choose_some}
+use borrow.Author.Rules.{rules}
+use Rattle.bodies.proofs.choose.choose.Goals as goal
+
+pub returns-then-is_spent : goal.returns-then-is_spent
+returns-then-is_spent c = record { turns = λ p s l w. over w l (spent w (sym c.if-is_spent.true ∙ c.is_spent.ensures.reads s l)) }
+
+pub returns-then-register_at-eq0 : goal.returns-then-register_at-eq0
+returns-then-register_at-eq0 c = record { turns = λ p s l w. choose_none l (sym c.if-is_spent.false ∙ c.is_spent.ensures.reads s l) w c.register_at.ensures c.if-register_at-eq0.true c.go_on.ensures }
+
+pub returns : goal.returns
+returns c = record { turns = λ p s l w. choose_some l (sym c.if-is_spent.false ∙ c.is_spent.ensures.reads s l) w c.register_at.ensures c.if-register_at-eq0.false c.push.ensures }

@@ -1,0 +1,27 @@
+-- Number 17, the child, and on.
+use native.Mathlib.Omega.{arith}
+use mathlib.Core.Path.{refl, sym, ◌∙◌}
+use Rattle.moves.proofs.Standings.{few, over, spent}
+use Rattle.bodies.proofs.Spawns.{grown, crowded, born}
+use borrow.Author.Rules.{rules}
+use Rattle.bodies.proofs.spawn.fork.Goals as goal
+
+pub returns-then-is_spent : goal.returns-then-is_spent
+returns-then-is_spent c = record { does = λ p s l w q. over w l (spent w (sym c.if-is_spent.true ∙ c.is_spent.ensures.reads s l)) }
+
+pub returns-then-made-ge64 : goal.returns-then-made-ge64
+returns-then-made-ge64 c =
+    record {
+      does = λ p s l w q. over w l (crowded l w q (sym c.if-is_spent.false ∙ c.is_spent.ensures.reads s l) (omega (arith, c.activities_of-made.ensures.reads s l, c.if-made-ge64.true)));
+    }
+
+pub returns : goal.returns
+returns c =
+    record {
+      does =
+          λ p s l w q.
+          let i<64 = few w in
+          born l w q (sym c.if-is_spent.false ∙ c.is_spent.ensures.reads s l) (c.activities_of-made.ensures.reads s l) c.if-made-ge64.false (c.register_at-register.ensures.reads s l (few w)) (omega arith)
+          (grown _ _ _ c.stop.ensures c.put_register.ensures c.put_spawner.ensures (c.put_frame.ensures (omega arith)) c.put_depth.ensures)
+          c.give.ensures refl c.put_activities.ensures c.go_on.ensures;
+    }

@@ -1,0 +1,13 @@
+-- One name after the other.
+use Prim.Native.Nat.{◌-◌}
+use mathlib.Core.Path.{◌≡◌, refl, sym, ◌∙◌}
+use lib.ListN.{length}
+use Rattle.bodies.proofs.Giving.{GivesTo, give_none, give_more, give_skip, give_done}
+use borrow.Author.Rules.{rules}
+use Rattle.bodies.proofs.spawn.give.Given as goal
+
+abbrev pub invariant-loop-k : goal.invariant-loop-k
+invariant-loop-k l = (length l.state ≡ length l.initial.state) × GivesTo l.m l.k l.initial.state l.state l.i l.n
+
+abbrev pub decreases-loop-k : goal.decreases-loop-k
+decreases-loop-k l = 8 - l.k
