@@ -1,0 +1,17 @@
+-- The first i rows are written.
+use Prim.Native.Nat.{◌-◌}
+use native.Mathlib.Omega.{arith}
+use mathlib.Core.Path.{sym, ◌∙◌}
+use Rattle.encoding.proofs.PartLaws.{turn_sized}
+use Rattle.calls.proofs.Rows.{Rowed, rowed_none, rowed_more, rowed_all}
+use borrow.Author.Rules.{rules}
+use Rattle.calls.proofs.sheet.put_rows.Goals as goal
+
+pub loop-i-init : goal.loop-i-init
+loop-i-init c = rowed_none c.requires
+
+pub loop-i-preserved : goal.loop-i-preserved
+loop-i-preserved c = rowed_more c.loop-i.invariant c.loop-i-test.true c.sheet_row-row.ensures c.put_row.auto.out c.put_row.ensures
+
+pub returns : goal.returns
+returns c = rowed_all c.loop-i.invariant c.loop-i-test.false
