@@ -6,7 +6,7 @@ use native.Mathlib.Omega.{arith}
 use borrow.Rule.Slice.PartMut.{mid_of}
 use lib.ListN.{length, drop, length-take, length-drop}
 use lib.Seq.{length-take-le, length-sets}
-use Rattle.io.specs.Counts.{IsPrefixLen}
+use Rattle.walk.specs.Counts.{IsPrefixLen}
 use Rattle.lines.specs.Put.{Put}
 use Rattle.lines.specs.Text.{total_of}
 
