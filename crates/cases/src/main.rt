@@ -1,5 +1,6 @@
 // Runs the cases that document 01 marks as run only, and prints what came.
 #![tactic(auto)]
+
 mod orders; // orders.rt: orders of calls
 mod repeats; // repeats.rt: the tables of the longest runs
 mod report; // report.rt: a case run, and what came
