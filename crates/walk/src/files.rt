@@ -1,6 +1,6 @@
 // Files read whole.
-ghost use Rattle.std.specs.Prelude.{◌≤◌, length};
-ghost use Rattle.walk.specs.Counts.{IsPrefixLen};
+ghost use Rattle.std.specs.Prelude.{◌≡◌, ◌≤◌, ◌<◌, false, length};
+ghost use Rattle.walk.specs.Counts.{IsPrefixLen, Consumed};
 
 use std::fs;
 use std::io::Read;
@@ -15,7 +15,8 @@ struct Came {
 
 // One read.
 fn read_some<R: Read>(file: &mut R, part: &mut [u8]) -> Came
-    ensures { result.bytes ≤ length part.old }
+    ensures in_bounds { result.bytes ≤ length part.old }
+    ensures consumed { result.failed ≡ false → Consumed (R.remaining file.old) (R.remaining file.new) result.bytes part.new (result.bytes ≡ 0) }
 {
     match file.read(part) {
         Ok(bytes) => Came {
@@ -31,7 +32,8 @@ fn read_some<R: Read>(file: &mut R, part: &mut [u8]) -> Came
 
 // Reads until the buffer is full or the file ends, and answers how many bytes came; an error counts as no byte.
 fn read_whole<R: Read>(file: &mut R, buf: &mut [u8]) -> usize
-    ensures { IsPrefixLen result buf.new }
+    ensures in_bounds { IsPrefixLen result buf.new }
+    ensures whole { 0 < result → Consumed (R.remaining file.old) (R.remaining file.new) result buf.new (result < length buf.new) }
 {
     let mut done: usize = 0;
     while done < buf.len() {
