@@ -13,13 +13,12 @@ loop-line-init g c =
     (omega arith, subst (Appends (g.W.Write.contents c.args.to.now) (g.W.Write.contents c.args.to.now)) (sym (between_none c.args.order.now c.args.answers.now c.args.counts.now 0)) (Appends-nil (g.W.Write.contents c.args.to.now)))
 
 pub loop-line-preserved : goal.loop-line-preserved
-loop-line-preserved g c =
-    (
-      c.put_page-page.ensures.within c.loop-line.invariant.0,
-      more_written c.args.order.now c.args.answers.now c.args.counts.now c.requires.order_in_bounds c.requires.order_in_bounds_2
+loop-line-preserved g c = (
+  c.put_page-page.ensures.within c.loop-line.invariant.0,
+  more_written c.args.order.now c.args.answers.now c.args.counts.now c.requires.order_in_bounds c.requires.order_in_bounds_2
       (g.W.Write.contents c.args.to.now) (g.W.Write.contents c.loop-line.to) (g.W.Write.contents c.flush.new.to) c.loop-line.invariant.0
       c.loop-line.invariant.1 c.put_page-page.ensures c.in_ok-flush.ensures.written,
-    )
+)
 
 pub returns-clause-printed : goal.returns-clause-printed
 returns-clause-printed g c =
