@@ -1,5 +1,5 @@
 -- What came goes behind what had come.
-use Rattle.std.proofs.Common.{rules, arith, ◌+◌, ◌-◌, ◌≤◌, ℕ, length, take, subst, sym}
+use Rattle.std.proofs.Common.{rules, arith, ◌-◌, ◌≤◌, length, subst, sym}
 use Rattle.std.specs.Io.KnownBytes.{Consumes}
 use Rattle.std.proofs.KnownBytes.{Consumes-trans}
 use Rattle.walk.proofs.Parts.{took}
