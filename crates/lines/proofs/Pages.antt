@@ -41,7 +41,7 @@ lines_take n t (x ∷ order) (y ∷ answers) (z ∷ awaited) =
     ap (λ (l : List ℕ). line_of (n + 1) x y (t + steps_of y) z ++ l) (lines_take (n + 1) (t + steps_of y) order answers awaited)
 
 -- All lines.
-between_all : (order answers awaited : List ℕ) → lines_between order answers awaited 0 (length order) ≡ lines_from 0 0 order answers awaited
+pub between_all : (order answers awaited : List ℕ) → lines_between order answers awaited 0 (length order) ≡ lines_from 0 0 order answers awaited
 unfolding lines_between steps_in
 between_all order answers awaited =
     ap (λ (l : List ℕ). lines_from 0 0 l (take (length order) answers) (take (length order) awaited)) (take_all (length order) order (omega arith))

@@ -9,7 +9,7 @@ use borrow.Author.Tests.{ltb-true, ltb-false, lt-ltb, le-ltb, ne_eqb, eq-eqb}
 use lib.Dec.{ltb, eqb}
 use lib.ListN.{length, take, drop, get_or, length-append, take-append-drop}
 use lib.Seq.{slice, slice_empty, slice-cons, length-slice, take-suc, take_all, take-take, length-take-le, drop-append-le}
-use Rattle.lines.specs.Text.{last_digit, digits_of, decimal_of, awaited_of, line_of}
+use Rattle.lines.specs.Text.{last_digit, digits_of, decimal_of, awaited_of, line_of, total_of, refused_of}
 use Rattle.lines.specs.Walk.{steps_of, steps_in, lines_from}
 use Rattle.lines.specs.Put.{Put}
 use Rattle.lines.specs.Paged.{lines_between, Paged}
@@ -193,6 +193,23 @@ line_length line act answer taken awaited a b c d e =
     let x = decimal_length answer c in
     let y = decimal_length taken d in
     let z = awaited_length answer awaited e in
+    simp length-append (omega arith)
+
+-- A total has at most 118 bytes, and the line of a table turned down at most 27.
+pub total_length : (work taken ended spawned : ℕ) → work < 18446744073709551616 → taken < 18446744073709551616 → ended < 18446744073709551616
+    → spawned < 18446744073709551616 → length (total_of work taken ended spawned) ≤ 118
+unfolding total_of
+total_length work taken ended spawned a b c d =
+    let w = decimal_length work a in
+    let x = decimal_length taken b in
+    let y = decimal_length ended c in
+    let z = decimal_length spawned d in
+    simp length-append (omega arith)
+
+pub refused_length : (number : ℕ) → number < 18446744073709551616 → length (refused_of number) ≤ 27
+unfolding refused_of
+refused_length number a =
+    let w = decimal_length number a in
     simp length-append (omega arith)
 
 -- A PAGE UNDER WAY

@@ -1,5 +1,6 @@
 // The lines that the walk prints, put into a buffer.
 #![tactic(auto)]
+
 mod put; // put.rt: a byte, bytes and a number
 mod line; // line.rt: the header, a line, the total and the line of a table turned down
 mod page; // page.rt: as many lines as a buffer holds

@@ -1,54 +1,57 @@
 // Reads tables built here, and prints the name of each with its number, and its counts where it is accepted.
 #![tactic(auto)]
+
 mod build; // build.rt: tables made of commands
 
 use build::{Built, Piece};
+use program::table::read_table;
+use std::io;
 
 // Writes a word and a number.
-fn field(word: &[u8], number: u64) {
-    io::write_all(1, word);
-    io::print_decimal(1, number);
+fn field(rt: &impl Print, word: &str, number: u64) -> io::Result<()> {
+    print!(rt; "{word}{number}")
 }
 
 // Writes a table's name and its number, and its counts where that is 0.
-fn report(name: &[u8], table: &[u8]) {
-    let found = program::table::read_table(table);
+fn report(rt: &impl Print, name: &str, table: &[u8]) -> io::Result<()> {
+    let found = read_table(table);
     let number = found.number;
-    io::write_all(1, name);
-    field(b" ", number as u64);
+    print!(rt; "{name}")?;
+    field(rt, " ", number as u64)?;
     if number == 0 {
-        field(b" work ", found.work);
-        field(b" activities ", found.activities);
-        field(b" clocks ", found.clocks);
-        field(b" accumulators ", found.accumulators);
+        field(rt, " work ", found.work)?;
+        field(rt, " activities ", found.activities)?;
+        field(rt, " clocks ", found.clocks)?;
+        field(rt, " accumulators ", found.accumulators)?;
     }
-    io::write_all(1, b"\n");
+    println!(rt; "")
 }
 
 // The same for a table that was built.
-fn show(name: &[u8], built: Built) {
+fn show(rt: &impl Print, name: &str, built: Built) -> io::Result<()> {
     let bytes = built.bytes;
     let len = built.len;
     if len <= 2049 {
-        report(name, &bytes[..len]);
+        report(rt, name, &bytes[..len])?;
     }
+    Ok(())
 }
 
 // A table for each of the numbers that few bytes show.
-fn short_tables() {
-    report(b"one byte", &[1]);
-    report(b"no bodies", &[0, 0]);
-    report(b"CHOOSE without its operand", &[1, 0x11]);
-    report(b"byte 12", &[1, 0x12]);
-    report(b"CHOOSE of its own body", &[1, 0x11, 0, 0]);
-    report(b"CHOOSE after ATOM 1", &[2, 0x10, 1, 0x11, 1, 0, 0]);
-    report(b"no END", &[1, 1]);
-    report(b"CLOCK 8", &[1, 2, 8, 0]);
-    report(b"FINISH of its own body", &[1, 6, 0, 0]);
-    report(b"NEXT after ATOM 1", &[1, 0x10, 1, 1, 0]);
-    report(b"a byte more", &[1, 0, 0]);
-    report(b"64 ASYNC", &[3, 7, 0x40, 1, 0, 5, 2, 0, 0, 0]);
-    report(b"63 ASYNC", &[3, 7, 0x3F, 1, 0, 5, 2, 0, 0, 0]);
+fn short_tables(rt: &impl Print) -> io::Result<()> {
+    report(rt, "one byte", &[1])?;
+    report(rt, "no bodies", &[0, 0])?;
+    report(rt, "CHOOSE without its operand", &[1, 0x11])?;
+    report(rt, "byte 12", &[1, 0x12])?;
+    report(rt, "CHOOSE of its own body", &[1, 0x11, 0, 0])?;
+    report(rt, "CHOOSE after ATOM 1", &[2, 0x10, 1, 0x11, 1, 0, 0])?;
+    report(rt, "no END", &[1, 1])?;
+    report(rt, "CLOCK 8", &[1, 2, 8, 0])?;
+    report(rt, "FINISH of its own body", &[1, 6, 0, 0])?;
+    report(rt, "NEXT after ATOM 1", &[1, 0x10, 1, 1, 0])?;
+    report(rt, "a byte more", &[1, 0, 0])?;
+    report(rt, "64 ASYNC", &[3, 7, 0x40, 1, 0, 5, 2, 0, 0, 0])?;
+    report(rt, "63 ASYNC", &[3, 7, 0x3F, 1, 0, 5, 2, 0, 0, 0])
 }
 
 // A table of one body of so many copies of a piece.
@@ -57,19 +60,21 @@ fn one_body(piece: Piece, count: usize) -> Built {
 }
 
 // The limits of the table's bytes, of clocks and of accumulators.
-fn limits() {
-    show(b"2,048 bytes", one_body(build::one(1), 2046));
-    show(b"2,049 bytes", one_body(build::one(1), 2047));
+fn limits(rt: &impl Print) -> io::Result<()> {
+    show(rt, "2,048 bytes", one_body(build::one(1), 2046))?;
+    show(rt, "2,049 bytes", one_body(build::one(1), 2047))?;
     show(
-        b"16 rounds of CLOCK 0, DROP 0",
+        rt,
+        "16 rounds of CLOCK 0, DROP 0",
         one_body(build::four(2, 0, 4, 0), 16),
-    );
+    )?;
     show(
-        b"17 rounds of CLOCK 0, DROP 0",
+        rt,
+        "17 rounds of CLOCK 0, DROP 0",
         one_body(build::four(2, 0, 4, 0), 17),
-    );
-    show(b"16 ACC 0 0", one_body(build::three(8, 0, 0), 16));
-    show(b"17 ACC 0 0", one_body(build::three(8, 0, 0), 17));
+    )?;
+    show(rt, "16 ACC 0 0", one_body(build::three(8, 0, 0), 16))?;
+    show(rt, "17 ACC 0 0", one_body(build::three(8, 0, 0), 17))
 }
 
 // REPEAT 255 of REPEAT 254 of a bare END, with so many FETCH more.
@@ -80,18 +85,20 @@ fn repeats(more: usize) -> Built {
     build::push(second, 0)
 }
 
-fn main() {
-    short_tables();
-    limits();
-    show(b"REPEAT 255 of REPEAT 254", repeats(0));
-    show(b"REPEAT 255 of REPEAT 254, 253 FETCH", repeats(253));
-    show(b"REPEAT 255 of REPEAT 254, 254 FETCH", repeats(254));
+fn main(rt: HostRuntime) -> io::Result<()> {
+    short_tables(&rt)?;
+    limits(&rt)?;
+    show(&rt, "REPEAT 255 of REPEAT 254", repeats(0))?;
+    show(&rt, "REPEAT 255 of REPEAT 254, 253 FETCH", repeats(253))?;
+    show(&rt, "REPEAT 255 of REPEAT 254, 254 FETCH", repeats(254))?;
     show(
-        b"16 bodies of 60 FINISH",
+        &rt,
+        "16 bodies of 60 FINISH",
         build::nested(build::two(6, 0), 60),
-    );
+    )?;
     show(
-        b"15 bodies of 40 REPEAT 0",
+        &rt,
+        "15 bodies of 40 REPEAT 0",
         build::nested(build::three(7, 0, 0), 40),
-    );
+    )
 }

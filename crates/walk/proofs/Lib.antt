@@ -1,4 +1,5 @@
 mod Enough
 mod Example
 pub mod Parts
-mod Printed
+pub mod Printed
+pub mod Written

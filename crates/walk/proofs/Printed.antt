@@ -137,21 +137,24 @@ module _ (t order before counts : List ℕ) {after told : List ℕ} {r : Ran} (t
   plenty : length order ≤ length told
   plenty = omega (arith, ap length told_left, length-append (awaiteds base t order) (drop (length order) counts), as_long)
 
-  -- The header, the pages made of a run's answers and numbers, and the total of its state, joined, are the text by the rules.
-  pub printed : {pieces : List (List ℕ)} → Pages order after told 0 pieces
-      → header_of ++ joined pieces ++ total_of (work_of (program_of t)) r.state.steps (count_below (min r.state.activities 64) (ended r.state)) r.state.activities ≡ walked t order
-  printed pages =
+  -- The text made of a run's answers and numbers, and of the total of its state, is the text by the rules.
+  pub printed_text : walk_text order after told (work_of (program_of t)) r.state.steps (count_below (min r.state.activities 64) (ended r.state)) r.state.activities ≡ walked t order
+  printed_text =
       let work = work_of (program_of t) in
       let few = (good_at base t (omega arith) z order).reached.inv.bounded.count in
       let all : min r.state.activities 64 ≡ r.state.activities = omega (arith, few, ap (λ (s : State). s.activities) state_left) in
       let text : List ℕ → List ℕ → State → ℕ → List ℕ = λ a n s m. walk_text order a n work s.steps (count_below m (ended s)) s.activities in
-      text_whole order after told work r.state.steps _ r.state.activities enough plenty pages
-      ∙ sym (text_past order after told work r.state.steps _ r.state.activities)
+      sym (text_past order after told work r.state.steps _ r.state.activities)
       ∙ ap (λ (a : List ℕ). text a (take (length order) told) r.state (min r.state.activities 64)) answers_left
       ∙ ap (λ (n : List ℕ). text (map answer_number (answers base t order)) n r.state (min r.state.activities 64)) numbers_left
       ∙ ap (λ (m : ℕ). text (map answer_number (answers base t order)) (awaiteds base t order) r.state m) all
       ∙ ap (λ (s : State). text (map answer_number (answers base t order)) (awaiteds base t order) s s.activities) state_left
       ∙ sym (made t z order)
+
+  -- The header, the pages made of a run's answers and numbers, and the total of its state, joined, are the text by the rules.
+  pub printed : {pieces : List (List ℕ)} → Pages order after told 0 pieces
+      → header_of ++ joined pieces ++ total_of (work_of (program_of t)) r.state.steps (count_below (min r.state.activities 64) (ended r.state)) r.state.activities ≡ walked t order
+  printed pages = text_whole order after told (work_of (program_of t)) r.state.steps _ r.state.activities enough plenty pages ∙ printed_text
 
 -- The line of a table turned down is the text by the rules.
 pub printed_refused : (t order : List ℕ) → (number_of work_limit t ≡ 0 → ⊥) → refused_of (number_of work_limit t) ≡ walked t order

@@ -1,6 +1,10 @@
 // Files read whole.
-ghost use Rattle.std.specs.Prelude.{◌≤◌, length};
-ghost use Rattle.io.specs.Counts.{IsPrefixLen};
+ghost use Rattle.std.specs.Prelude.{◌≡◌, ◌≤◌, ◌<◌, false, length};
+ghost use Rattle.walk.specs.Counts.{IsPrefixLen, Consumed};
+
+use std::fs;
+use std::io::Read;
+use std::rt::Files;
 
 // What a read gave: whether it failed, and how many bytes came.
 #[derive(Clone, Copy)]
@@ -10,24 +14,30 @@ struct Came {
 }
 
 // One read.
-fn read_some(fd: i32, part: &mut [u8]) -> Came
-    ensures { result.bytes ≤ length part.old }
+fn read_some<R: Read>(file: &mut R, part: &mut [u8]) -> Came
+    ensures in_bounds { result.bytes ≤ length part.old }
+    ensures consumed { result.failed ≡ false → Consumed (R.remaining file.old) (R.remaining file.new) result.bytes part.new (result.bytes ≡ 0) }
 {
-    let got = libc::read(fd, part);
-    let bytes = io::count(got, part);
-    Came {
-        failed: got < 0,
-        bytes,
+    match file.read(part) {
+        Ok(bytes) => Came {
+            failed: false,
+            bytes,
+        },
+        Err(_) => Came {
+            failed: true,
+            bytes: 0,
+        },
     }
 }
 
 // Reads until the buffer is full or the file ends, and answers how many bytes came; an error counts as no byte.
-fn read_whole(fd: i32, buf: &mut [u8]) -> usize
-    ensures { IsPrefixLen result buf.new }
+fn read_whole<R: Read>(file: &mut R, buf: &mut [u8]) -> usize
+    ensures in_bounds { IsPrefixLen result buf.new }
+    ensures whole { 0 < result → Consumed (R.remaining file.old) (R.remaining file.new) result buf.new (result < length buf.new) }
 {
     let mut done: usize = 0;
     while done < buf.len() {
-        let came = read_some(fd, &mut buf[done..]);
+        let came = read_some(file, &mut buf[done..]);
         if came.failed {
             return 0;
         }
@@ -40,14 +50,11 @@ fn read_whole(fd: i32, buf: &mut [u8]) -> usize
 }
 
 // The bytes of a file of the folder, as many as the buffer holds; a file that cannot be read counts as empty.
-pub fn read_file(name: &[u8], buf: &mut [u8]) -> usize
+pub fn read_file<F: Files>(rt: &F, name: &str, buf: &mut [u8]) -> usize
     ensures { IsPrefixLen result buf.new }
 {
-    let fd = os::open_read(name);
-    if fd < 0 {
-        return 0;
+    match fs::open(rt, name) {
+        Ok(mut file) => read_whole(&mut file, buf),
+        Err(_) => 0,
     }
-    let done = read_whole(fd, buf);
-    libc::close(fd);
-    done
 }

@@ -1,51 +1,65 @@
 // Walks through a job: reads the files JOB and ORDER, and prints a line for each byte of the order and a total.
 #![tactic(auto)]
-ghost use Rattle.std.specs.Prelude.{◌≤◌, length};
+
+ghost use Rattle.std.specs.Prelude.{◌≤◌, length, OnOk};
+ghost use Rattle.std.specs.Io.KnownBytes.{Appends};
+ghost use Rattle.walk.specs.Walked.{walked};
 
 mod files; // files.rt: a file read whole
 mod counts; // counts.rt: the activities ended, and the total of a state
-mod print; // print.rt: text handed to the standard output, a page at a time
+mod print; // print.rt: text handed on, a page at a time
 
 use counts::put_ending;
 use print::{flush, print_lines};
 use program::table::read_table;
+use std::io;
+use std::io::Write;
 
-// Prints the number for which the table is turned down, or the walk: specs/Walked.antt says what, proofs/Printed.antt that the pieces joined are that.
-fn walk(job: &[u8], order: &[u8], out: &mut [u8], answers: &mut [u8], counts: &mut [u8])
+// Writes the number for which the table is turned down, or the walk, as specs/Walked.antt says.
+fn walk<W: Write>(
+    to: &mut W,
+    job: &[u8],
+    order: &[u8],
+    out: &mut [u8],
+    answers: &mut [u8],
+    counts: &mut [u8],
+) -> io::Result<()>
     requires order_in_bounds { length order.now ≤ length answers.old }
     requires order_in_bounds_2 { length order.now ≤ length counts.old }
     requires in_bounds { 128 ≤ length out.old }
+    ensures { OnOk result (Appends (W.contents to.old) (W.contents to.new) (walked job.now order.now)) }
 {
     let found = read_table(job);
     let number = found.number;
     if number != 0 {
         let end = lines::put_refused(out, 0, number as u64);
-        flush(out, end);
-        return;
+        return flush(to, out, end);
     }
     let ran = machine::trace(job, order, answers, counts);
     let state = ran.state;
     let headed = lines::put_header(out, 0);
-    flush(out, headed);
-    print_lines(out, order, answers, counts);
+    flush(to, out, headed)?;
+    print_lines(to, out, order, answers, counts)?;
     let end = put_ending(out, found.work, state);
-    flush(out, end);
+    flush(to, out, end)
 }
 
 // A table has at most 2,048 bytes, so one byte more is enough (proofs/Enough.antt). Of the order, 65,535 bytes count.
-fn main() {
+fn main(rt: HostRuntime) -> io::Result<()> {
     let mut job = [0u8; 2049];
     let mut order = [0u8; 65535];
-    let mut out = io::large_buffer();
-    let mut answers = io::large_buffer();
-    let mut counts = io::large_buffer();
-    let table = files::read_file(b"JOB", &mut job);
-    let steps = files::read_file(b"ORDER", &mut order);
+    let mut out = [0u8; 65536];
+    let mut answers = [0u8; 65536];
+    let mut counts = [0u8; 65536];
+    let table = files::read_file(&rt, "JOB", &mut job);
+    let steps = files::read_file(&rt, "ORDER", &mut order);
+    let mut to = io::writer(&rt);
     walk(
+        &mut to,
         &job[..table],
         &order[..steps],
         &mut out,
         &mut answers,
         &mut counts,
-    );
+    )
 }

@@ -1,11 +1,6 @@
 -- The lines before the next stand in the buffer, whole.
-use Prim.Native.Nat.{◌-◌}
-use native.Mathlib.Omega.{arith}
-use borrow.Author.Rules.{rules}
-use borrow.Author.Tests.{ltb-true, ltb-false, leb-true, leb-false}
-use lib.ListN.{length, get_or}
-use Rattle.lines.proofs.Putting.{kept}
-use Rattle.lines.proofs.Paging.{Under, under_start, under_more, under_end, steps_le}
+use Rattle.std.proofs.Common.{length, ◌-◌}
+use Rattle.lines.proofs.Paging.{Under}
 use Rattle.lines.proofs.page.put_page.Given as goal
 
 abbrev pub invariant-loop-next : goal.invariant-loop-next

@@ -1,12 +1,10 @@
 -- The steps so far are those of the answers passed.
-use Prim.Native.Nat.{◌≤◌, ◌<◌, ◌-◌}
-use mathlib.Core.Path.{◌≡◌, sym, ap, ◌∙◌}
+use Prim.Native.Nat.{◌<◌}
+use mathlib.Core.Path.{sym}
 use native.Mathlib.Omega.{arith}
-use borrow.Author.Rules.{rules}
-use borrow.Author.Tests.{ltb-true, ltb-false}
-use lib.ListN.{length, take, get_or}
-use Rattle.lines.specs.Walk.{steps_in}
-use Rattle.lines.proofs.Paging.{steps_none, steps_more, steps_le, all_passed}
+use borrow.Author.Tests.{ltb-true}
+use lib.ListN.{length, get_or}
+use Rattle.lines.proofs.Paging.{steps_none, steps_more, steps_le}
 use Rattle.lines.proofs.page.taken_by.Goals as goal
 
 pub loop-i-init : goal.loop-i-init

@@ -1,12 +1,8 @@
 -- The steps so far are those of the answers passed.
-use Prim.Native.Nat.{◌≤◌, ◌<◌, ◌-◌}
-use mathlib.Core.Path.{◌≡◌, sym, ap, ◌∙◌}
-use native.Mathlib.Omega.{arith}
-use borrow.Author.Rules.{rules}
-use borrow.Author.Tests.{ltb-true, ltb-false}
-use lib.ListN.{length, take, get_or}
+use Prim.Native.Nat.{◌≤◌, ◌-◌}
+use mathlib.Core.Path.{◌≡◌}
+use lib.ListN.{length, take}
 use Rattle.lines.specs.Walk.{steps_in}
-use Rattle.lines.proofs.Paging.{steps_none, steps_more, steps_le, all_passed}
 use Rattle.lines.proofs.page.taken_by.Given as goal
 
 abbrev pub invariant-loop-i : goal.invariant-loop-i

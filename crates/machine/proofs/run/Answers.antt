@@ -1,0 +1,6 @@
+-- A trace with a buffer of its own.
+use borrow.Author.Rules.{rules}
+use Rattle.machine.proofs.run.Goals as goal
+
+pub returns : goal.returns
+returns c = c.trace.ensures.runs
