@@ -20,7 +20,7 @@ use Rattle.rules.specs.State.{fault_number, fault_of, act}
 use Rattle.rules.specs.Tree.{in_own_finish}
 use Rattle.rules.specs.Faults.{lends_unheld, lends_quiesced, async_fault, fault_for}
 use Rattle.rules.specs.Effects.{stopped, with_register, child, spawning, past, effect_of, with_stores, applied}
-use Rattle.rules.specs.Steps.{base, at, fault, effect, exceeds}
+use Rattle.rules.specs.Steps.{base, fault, effect, exceeds}
 use Rattle.rules.proofs.Turn.{turn}
 use Rattle.places.specs.Known.{Known}
 use Rattle.moves.specs.Exceeding.{overfull, exceeds_at}

@@ -2,6 +2,7 @@
 // A list is a slice of entries of five bytes: the command byte, its operand bytes in the order of the table, and bytes that the command lacks, which
 // are not looked at. Each call answers the documents' number.
 #![tactic(auto)]
+
 ghost use Rattle.std.specs.Prelude.{◌≡◌, map, length, take};
 ghost use Rattle.program.specs.Reading.{commands_of};
 ghost use Rattle.builder.specs.Build.{command_in, list_bytes, built_number, built_length, built_bytes, listed_number, listed_count, listed_entries};

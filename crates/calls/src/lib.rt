@@ -1,6 +1,7 @@
 // The machine's calls over lent bytes: a state is a buffer of 13,776 bytes, laid out as in docs/STATE-BYTES.md, and each call works in it.
 // The table's number 1 to 12 comes first; bytes that encode no state give 13; then a buffer of another length than the call needs gives 255.
 #![tactic(auto)]
+
 ghost use Rattle.std.specs.Prelude.{◌≡◌, length};
 ghost use Rattle.calls.specs.Calls.{start_number, start_bytes, step_number, step_bytes, ready_number, ready_set, awaits_number, awaits_count, sheet_number, sheet_bytes, run_number, run_answers, run_bytes, trace_counts};
 

@@ -1,5 +1,6 @@
 // The state as bytes, for a host that is no Rattle program: the layout of docs/STATE-BYTES.md, both ways.
 #![tactic(auto)]
+
 ghost use Rattle.std.specs.Prelude.{◌≡◌, cond, eqb, length};
 ghost use Rattle.encoding.specs.Encode.{encode_state};
 ghost use Rattle.encoding.specs.Decode.{decoded_of};

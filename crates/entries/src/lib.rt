@@ -1,5 +1,6 @@
 // Parts of a state in its bytes: those that are all 0, the steps taken, and what stands in an activity's 208 bytes. All total.
 #![tactic(auto)]
+
 ghost use Rattle.std.specs.Prelude.{◌<◌, true, ◌≡◌, length};
 ghost use Rattle.rules.specs.State.{frame, hold};
 ghost use Rattle.encoding.specs.Bytes.{number_of, part, byte_at, all_zero};

@@ -1,5 +1,6 @@
 // The fields of a state in its lent bytes: each read, and each written, in place. All total.
 #![tactic(auto)]
+
 pub mod bytes; // bytes.rt: numbers in the lent bytes of a state, at a place and of 1, 2 or 4 bytes
 pub mod counts; // counts.rt: what a state counts: the steps taken, and the activities, clocks and accumulators made
 pub mod cells; // cells.rt: the cells

@@ -1,5 +1,6 @@
 // The machine's calls under their C names, for a host in C or Rust; `calls` has what each answers and leaves.
 #![tactic(auto)]
+
 ghost use Rattle.std.specs.Prelude.{◌≡◌, length};
 ghost use Rattle.calls.specs.Calls.{start_number, start_bytes, step_number, step_bytes, ready_number, ready_set, awaits_number, awaits_count, sheet_number, sheet_bytes, run_number, run_answers, run_bytes};
 

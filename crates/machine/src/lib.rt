@@ -1,5 +1,6 @@
 // The machine's calls by value: start, one step, the ready set, the standing sheet and whole runs. Each is the call in place, in bytes of its own.
 #![tactic(auto)]
+
 ghost use Rattle.std.specs.Prelude.{◌≡◌};
 ghost use Rattle.rules.specs.Steps.{base, start, step, ready, registrations, registrations_number};
 ghost use Rattle.machine.specs.Ran.{Runs, Traces};

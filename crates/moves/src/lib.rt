@@ -1,5 +1,6 @@
 // What every command's function does in the lent bytes: number 17 where no step is left, a step counted, the place after a command, and a fault.
 #![tactic(auto)]
+
 ghost use Rattle.std.specs.Prelude.{nat_le};
 ghost use Rattle.rules.specs.declared.state.State.{State};
 ghost use Rattle.rules.specs.declared.state.Activity.{Activity};

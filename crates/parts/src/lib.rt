@@ -1,5 +1,6 @@
 // Small total functions on the parts of a state and of an answer.
 #![tactic(auto)]
+
 pub mod numbers; // numbers.rt: the paper's number for each value of an enum
 pub mod checks; // checks.rt: tests of a status, of a registration and of a clock name that is free
 pub mod holds; // holds.rt: what RESUME, NEXT and ASYNC do to a clock's registration

@@ -1,5 +1,6 @@
 // The command that a frame stands on, read from an accepted table.
 #![tactic(auto)]
+
 ghost use Rattle.std.specs.Prelude.{◌≡◌, true};
 ghost use Rattle.program.specs.Bodies.{program_of};
 ghost use Rattle.rules.specs.Tree.{here, is_finish};

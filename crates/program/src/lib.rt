@@ -1,5 +1,6 @@
 // Reads and counts tables. Everything above relies only on what this crate promises.
 #![tactic(auto)]
+
 pub mod command; // command.rt: the commands, and what the code knows of each
 mod count; // count.rt: the four counts of an accepted table
 pub mod reading; // reading.rt: one command from the slice that starts at it

@@ -25,7 +25,7 @@ use Rattle.rules.specs.History.{Insides, no_insides, is_finish_body, begins_fini
 use Rattle.rules.proofs.Tests.{true_false, decide}
 use Rattle.rules.proofs.Search.{chain_step}
 use Rattle.rules.proofs.Sized.{Sized}
-use Rattle.rules.proofs.WellFormedFacts.{Facts, facts}
+use Rattle.rules.proofs.WellFormedFacts.{Facts}
 use Rattle.rules.proofs.WellFormedShape.{born, Shape}
 use Rattle.rules.proofs.Turn.{Turn, turn, after}
 use Rattle.rules.proofs.Applied.{Now, self, newborn, other}

@@ -9,11 +9,11 @@ use Rattle.program.specs.Bodies.{Program}
 use Rattle.program.specs.Count.{activities_of}
 use Rattle.program.proofs.Shape.{Accepted}
 use Rattle.rules.specs.State.{act}
-use Rattle.rules.specs.Clocks.{holds, quiescent}
+use Rattle.rules.specs.Clocks.{quiescent}
 use Rattle.rules.specs.Effects.{env_of, applied}
 use Rattle.rules.specs.Steps.{at, refusal, effect, breach}
 use Rattle.rules.proofs.Shapes.{OfChild, Kind, kind}
-use Rattle.rules.proofs.Applied.{each, Fits}
+use Rattle.rules.proofs.Applied.{Fits}
 use Rattle.rules.proofs.Holders.{turned, turned_none}
 use Rattle.rules.proofs.Stable.{quiet_applied, quiet_turned, quiet_born}
 use Rattle.rules.proofs.Turn.{Turn, turn, faultless, doing, failed, by_fault}

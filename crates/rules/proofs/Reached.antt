@@ -12,7 +12,7 @@ use Rattle.rules.specs.Clocks.{holds}
 use Rattle.rules.specs.Tree.{here, inside}
 use Rattle.rules.specs.Steps.{waits}
 use Rattle.rules.proofs.Tests.{decide, true_false}
-use Rattle.rules.proofs.Shapes.{meets, is_next}
+use Rattle.rules.proofs.Shapes.{is_next}
 use Rattle.rules.proofs.Applied.{Bounded}
 use Rattle.rules.proofs.Holders.{EachHold}
 use Rattle.rules.proofs.VirtualTime.{Fine}

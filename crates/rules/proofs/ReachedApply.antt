@@ -10,7 +10,7 @@ use Rattle.rules.specs.Tree.{here}
 use Rattle.rules.specs.Effects.{applied, Effect, clocked_count}
 use Rattle.rules.proofs.Tests.{true_false}
 use Rattle.rules.proofs.Sized.{SizedActivity}
-use Rattle.rules.proofs.Shapes.{meets, is_next, OfChild, of_child, clocked_count_lem}
+use Rattle.rules.proofs.Shapes.{is_next, OfChild, of_child, clocked_count_lem}
 use Rattle.rules.proofs.Applied.{Bounded, each, Fits}
 use Rattle.rules.proofs.VirtualTime.{Fine, fine_on}
 use Rattle.rules.proofs.Containment.{Orderly, marked', contained'}

@@ -17,7 +17,6 @@ use Rattle.program.specs.Bodies.{Program}
 use Rattle.program.specs.Count.{own_activities, activities_of, own_clocks, own_accumulators, own_work}
 use Rattle.program.proofs.Shape.{Accepted}
 use Rattle.rules.specs.State.{act, ended, is_at_barrier, top}
-use Rattle.rules.specs.Clocks.{holds}
 use Rattle.rules.specs.Tree.{in_finish_body}
 use Rattle.rules.specs.Faults.{Env, spoilt}
 use Rattle.rules.specs.Effects.{env_of, applied, Effect, one, Spawned, spawned_count, nobody, clocked_count, past, pushed, end_of, again, popped, next_of, stopped}
@@ -27,7 +26,7 @@ use Rattle.rules.proofs.Tests.{and_true, true_false}
 use Rattle.rules.proofs.Sums.{sum_below_at, upd, upd_other, upd_same}
 use Rattle.rules.proofs.Sized.{SizedActivity}
 use Rattle.rules.proofs.Shapes.{meets, is_next, Counts, counts, OfChild, Kind, ends, forks, opens, enters, moves, kind, breaching}
-use Rattle.rules.proofs.Applied.{each, Fits, activities_applied, clocks_applied, accumulators_applied, steps_applied}
+use Rattle.rules.proofs.Applied.{Fits, activities_applied, clocks_applied, accumulators_applied, steps_applied}
 use Rattle.rules.proofs.Holders.{turned, turned_none}
 use Rattle.rules.proofs.VirtualTime.{Fine, later, fine_self, fine_born, later_slow, fine_stopped}
 use Rattle.rules.proofs.Containment.{held_turned, born_after, Opening}

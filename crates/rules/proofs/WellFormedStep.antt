@@ -24,9 +24,9 @@ use Rattle.rules.specs.declared.state.State.{State}
 use Rattle.rules.specs.State.{operator_of, no_frame, no_hold, no_frames, no_accumulator, act, top, hold, accumulator, bound, is_ended, is_at_barrier}
 use Rattle.rules.specs.Clocks.{is_held, holds, quiesce, pass}
 use Rattle.rules.specs.Tree.{here}
-use Rattle.rules.specs.Effects.{one, Write, Effect, lent, child, new_accumulator, clocked_count, written_count, applied}
+use Rattle.rules.specs.Effects.{one, Write, Effect, child, new_accumulator, clocked_count, written_count, applied}
 use Rattle.rules.specs.WellFormed.{is_no_frame, is_no_activity, is_no_accumulator, is_placed, is_bottom, well_formed}
-use Rattle.rules.specs.Steps.{Limits, at, effect, refusal, makes, exceeds}
+use Rattle.rules.specs.Steps.{Limits, effect, refusal, makes, exceeds}
 use Rattle.rules.proofs.Tests.{true_false}
 use Rattle.rules.proofs.Lists.{Stored, new, old, stored}
 use Rattle.rules.proofs.Sized.{Sized}

@@ -1,5 +1,6 @@
 // Turns in the lent bytes: numbers 14 to 16, or the command's function, and orders of turns; the ready set and the standing sheet.
 #![tactic(auto)]
+
 ghost use Rattle.std.specs.Prelude.{◌≡◌};
 ghost use Rattle.turns.specs.Turns.{CarriesIn, TurnsAny};
 

@@ -1,5 +1,6 @@
 // Commands on values: PUT, ACC, OFFER, READ, RESET, FETCH, STORE, ADD and ATOM, in the lent bytes.
 #![tactic(auto)]
+
 pub mod put; // put.rt: PUT
 pub mod acc; // acc.rt: ACC
 pub mod offer; // offer.rt: OFFER

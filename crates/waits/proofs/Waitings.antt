@@ -26,7 +26,7 @@ use Rattle.rules.specs.WellFormed.{is_placed, well_formed}
 use Rattle.rules.specs.Faults.{read_fault, fault_for, faulted_inside, spoilt}
 use Rattle.rules.specs.Effects.{env_of}
 use Rattle.rules.specs.Waiting.{behind_of, unended_below, unended_inside, waits_for, awaited_at}
-use Rattle.rules.specs.Steps.{at, breach}
+use Rattle.rules.specs.Steps.{breach}
 use Rattle.rules.proofs.Counting.{count_none, guard_shut, guard_open}
 use Rattle.rules.proofs.Awaited.{awaited_live}
 use Rattle.rules.proofs.WellFormedFacts.{Facts, facts}

@@ -1,5 +1,6 @@
 // Number 13 of document 01: whether a state is fit for its table.
 #![tactic(auto)]
+
 ghost use Rattle.std.specs.Prelude.{◌≡◌};
 ghost use Rattle.program.specs.Bodies.{program_of};
 ghost use Rattle.program.specs.Table.{work_limit, number_of, table_of};

@@ -1,13 +1,12 @@
 -- The bytes are made, read and copied; what is turned down leaves the buffer.
 use native.Mathlib.Omega.{arith}
 use mathlib.Core.Path.{◌≡◌, sym, ap, ◌∙◌}
-use borrow.Author.Rules.{rules}
 use Rattle.program.specs.Table.{work_limit, number_of}
 use Rattle.program.specs.declared.table.Table.{Table}
 use Rattle.program.proofs.ShapeLaws.{table_number}
 use Rattle.builder.specs.Build.{list_bytes}
 use Rattle.builder.specs.Filled.{Written}
-use Rattle.builder.proofs.Answers.{unmade, made, written-long, written-inside, written-number, written-bytes, build-refused, build-short, build-done}
+use Rattle.builder.proofs.Answers.{unmade, made, written-number, written-bytes, build-refused, build-short, build-done}
 use Rattle.builder.proofs.build.Goals as goal
 
 pub returns-then-length-eq0 : goal.returns-then-length-eq0

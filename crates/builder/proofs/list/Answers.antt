@@ -1,7 +1,6 @@
 -- The table is read, its commands are counted and written; what is turned down leaves the entries.
 use native.Mathlib.Omega.{arith}
 use mathlib.Core.Path.{◌≡◌, sym, ap, ◌∙◌}
-use borrow.Author.Rules.{rules}
 use Rattle.program.specs.Scan.{scan}
 use Rattle.program.specs.Table.{work_limit, number_of}
 use Rattle.program.specs.declared.table.Table.{Table}

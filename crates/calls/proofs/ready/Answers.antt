@@ -2,7 +2,6 @@
 use native.Mathlib.Omega.{arith}
 use Rattle.calls.proofs.Checking.{passed, known_read}
 use Rattle.calls.proofs.Telling.{ready_refused, ready_told}
-use borrow.Author.Rules.{rules}
 use Rattle.calls.proofs.ready.Goals as goal
 
 pub returns-then-number-ne0 : goal.returns-then-number-ne0

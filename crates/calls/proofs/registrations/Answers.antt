@@ -1,7 +1,6 @@
 -- The check decides, then the room.
 use native.Mathlib.Omega.{arith}
 use Rattle.calls.proofs.Telling.{sheet_refused, sheet_length, sheet_told}
-use borrow.Author.Rules.{rules}
 use Rattle.calls.proofs.registrations.Goals as goal
 
 pub returns-then-number-ne0 : goal.returns-then-number-ne0

@@ -2,7 +2,6 @@
 use mathlib.Core.Path.{sym, ◌∙◌}
 use Rattle.calls.proofs.Checking.{number_read}
 use Rattle.calls.proofs.Starting.{start_refused, start_length, start_done}
-use borrow.Author.Rules.{rules}
 use Rattle.calls.proofs.start.Goals as goal
 
 pub returns-then-number-ne0 : goal.returns-then-number-ne0

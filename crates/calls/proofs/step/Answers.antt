@@ -2,7 +2,6 @@
 use native.Mathlib.Omega.{arith}
 use Rattle.calls.proofs.Checking.{passed, known_read, work_read, work_small}
 use Rattle.calls.proofs.Stepping.{step_kept, step_turned}
-use borrow.Author.Rules.{rules}
 use Rattle.calls.proofs.step.Goals as goal
 
 pub returns-then-number-ne0 : goal.returns-then-number-ne0

@@ -2,7 +2,6 @@
 use mathlib.Core.Path.{refl, sym, ◌∙◌}
 use Rattle.calls.proofs.Checking.{number_read, known_read, work_read, work_small}
 use Rattle.calls.proofs.Running.{run_refused, run_length, run_short, run_followed}
-use borrow.Author.Rules.{rules}
 use Rattle.calls.proofs.trace.Goals as goal
 
 pub returns-then-number-ne0 : goal.returns-then-number-ne0

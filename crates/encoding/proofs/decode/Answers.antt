@@ -2,7 +2,6 @@
 use mathlib.Core.Path.{sym, ◌∙◌}
 use borrow.Author.Tests.{eq-eqb, ne_eqb}
 use Rattle.encoding.specs.Decode.{encodes, decoded_of}
-use borrow.Author.Rules.{rules}
 use Rattle.encoding.proofs.decode.Goals as goal
 
 pub returns-then-bytes-ne13776 : goal.returns-then-bytes-ne13776

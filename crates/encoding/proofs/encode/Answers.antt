@@ -1,6 +1,5 @@
 -- The length decides.
 use borrow.Author.Tests.{eq-eqb, ne_eqb}
-use borrow.Author.Rules.{rules}
 use Rattle.encoding.proofs.encode.Goals as goal
 
 pub returns-then-out-eq13776 : goal.returns-then-out-eq13776

@@ -1,7 +1,5 @@
 -- Its eight bytes.
-use native.Mathlib.Omega.{arith}
 use mathlib.Core.Path.{ap, ◌∙◌}
-use borrow.Author.Rules.{rules}
 use Rattle.encoding.specs.Decode.{frame_at}
 use Rattle.entries.proofs.EntryLaws.{frame_bytes_lem, frame_is}
 use Rattle.entries.proofs.frame_in.Goals as goal

@@ -1,7 +1,5 @@
 -- Its eight bytes.
-use native.Mathlib.Omega.{arith}
 use mathlib.Core.Path.{ap, ◌∙◌}
-use borrow.Author.Rules.{rules}
 use Rattle.encoding.specs.Decode.{frame_encodes}
 use Rattle.entries.proofs.EntryLaws.{frame_bytes_lem}
 use Rattle.entries.proofs.frame_whole.Goals as goal

@@ -2,7 +2,6 @@
 use Prim.Native.Nat.{◌+◌, ◌*◌}
 use native.Mathlib.Omega.{arith}
 use mathlib.Core.Path.{◌≡◌, refl, ap, ◌∙◌}
-use borrow.Author.Rules.{rules}
 use Rattle.encoding.specs.Bytes.{number_of, part}
 use Rattle.encoding.proofs.NumberLaws.{number_below}
 use Rattle.encoding.proofs.FieldLaws.{sized, part_bytes}

@@ -1,6 +1,4 @@
 -- Its first four bytes, then its last four.
-use native.Mathlib.Omega.{arith}
-use borrow.Author.Rules.{rules}
 use Rattle.entries.proofs.EntryLaws.{first_not, first_zero}
 use Rattle.entries.proofs.hold_zero.Goals as goal
 

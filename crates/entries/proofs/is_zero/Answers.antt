@@ -1,11 +1,8 @@
 -- The greatest byte so far, and the bytes from i on, decide.
-use Prim.Native.Nat.{◌≤◌, ◌+◌, ◌-◌}
+use Prim.Native.Nat.{◌+◌}
 use native.Mathlib.Omega.{arith}
-use mathlib.Core.Bool.{◌&&◌}
-use mathlib.Core.Path.{◌≡◌, refl, ◌∙◌}
-use lib.ListN.{length, drop}
-use lib.Dec.{eqb}
-use borrow.Author.Rules.{rules}
+use mathlib.Core.Path.{◌∙◌}
+use lib.ListN.{drop}
 use Rattle.encoding.specs.Bytes.{all_zero}
 use Rattle.entries.proofs.ZeroLaws.{raised, kept, turned, ended}
 use Rattle.entries.proofs.is_zero.Goals as goal

@@ -1,5 +1,4 @@
 -- Its two bytes.
-use borrow.Author.Rules.{rules}
 use Rattle.encoding.specs.Decode.{activity_at}
 use Rattle.entries.proofs.status_in.Goals as goal
 

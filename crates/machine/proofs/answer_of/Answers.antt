@@ -1,7 +1,6 @@
 -- By the test of the number.
 use mathlib.Core.Path.{sym, ◌∙◌}
 use Rattle.machine.specs.Numbers.{answer_of}
-use borrow.Author.Rules.{rules}
 use Rattle.machine.proofs.answer_of.Goals as goal
 
 pub returns-then-is_refusal : goal.returns-then-is_refusal

@@ -4,7 +4,6 @@ use lib.ListN.{replicate, length-replicate}
 use Rattle.fits.proofs.Fitting.{Fitting}
 use Rattle.machine.proofs.Typed.{fitting}
 use Rattle.machine.proofs.Values.{own_bytes, ready_is}
-use borrow.Author.Rules.{rules}
 use Rattle.machine.proofs.ready.Goals as goal
 
 pub returns : goal.returns

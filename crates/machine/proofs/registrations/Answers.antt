@@ -4,7 +4,6 @@ use lib.ListN.{replicate, length-replicate}
 use Rattle.fits.proofs.Fitting.{Fitting}
 use Rattle.machine.proofs.Typed.{fitting}
 use Rattle.machine.proofs.Values.{own_bytes, sheet_number_lem, sheet_unfit, sheet_fit}
-use borrow.Author.Rules.{rules}
 use Rattle.machine.proofs.registrations.Goals as goal
 
 pub returns-then-checked-ne0 : goal.returns-then-checked-ne0

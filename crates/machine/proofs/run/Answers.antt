@@ -1,5 +1,4 @@
 -- A trace with a buffer of its own.
-use borrow.Author.Rules.{rules}
 use Rattle.machine.proofs.run.Goals as goal
 
 pub returns : goal.returns

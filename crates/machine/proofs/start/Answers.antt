@@ -2,7 +2,6 @@
 use mathlib.Core.Path.{◌∙◌, sym}
 use Rattle.calls.proofs.Checking.{number_read}
 use Rattle.machine.proofs.Values.{start_refused, start_accepted}
-use borrow.Author.Rules.{rules}
 use Rattle.machine.proofs.start.Goals as goal
 
 pub returns-then-read-ne0 : goal.returns-then-read-ne0

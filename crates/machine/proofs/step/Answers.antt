@@ -14,7 +14,6 @@ use Rattle.machine.specs.After.{entry}
 use Rattle.machine.proofs.Kept.{made}
 use Rattle.machine.proofs.Typed.{fitting}
 use Rattle.machine.proofs.Values.{own_bytes, after_passes, told}
-use borrow.Author.Rules.{rules}
 use Rattle.machine.proofs.step.Goals as goal
 
 pub activity_in-requires : goal.activity_in-requires

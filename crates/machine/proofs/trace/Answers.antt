@@ -4,7 +4,6 @@ use native.Mathlib.Omega.{arith}
 use lib.ListN.{length, replicate, length-replicate}
 use mathlib.Core.Path.{◌≡◌}
 use Rattle.machine.proofs.Runs.{short, refused, done, told_by}
-use borrow.Author.Rules.{rules}
 use Rattle.machine.proofs.trace.Goals as goal
 
 -- The bytes of its own.

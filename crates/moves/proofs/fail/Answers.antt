@@ -1,5 +1,5 @@
 -- Stopped, and a step.
-use Rattle.std.proofs.Common.{sym, ◌∙◌, rules}
+use Rattle.std.proofs.Common.{sym, ◌∙◌}
 use Rattle.moves.proofs.Standings.{over, spent}
 use Rattle.moves.proofs.Failing.{failed}
 use Rattle.moves.proofs.fail.Goals as goal

@@ -1,5 +1,4 @@
 -- The offset at the top of the stack, and a step.
-use Rattle.std.proofs.Common.{refl, arith, rules}
 use Rattle.moves.proofs.Going.{went_on}
 use Rattle.moves.proofs.go_on.Goals as goal
 

@@ -1,6 +1,5 @@
 -- The status, the depth, and then the rest is cleared.
 use Rattle.moves.proofs.Failing.{stops}
-use Rattle.std.proofs.Common.{rules}
 use Rattle.moves.proofs.stop.Goals as goal
 
 pub returns : goal.returns

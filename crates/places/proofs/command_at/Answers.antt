@@ -16,7 +16,6 @@ use Rattle.rules.specs.WellFormed.{is_placed}
 use Rattle.places.specs.Known.{Known}
 use Rattle.places.proofs.Places.{read_here}
 use Rattle.places.proofs.Starts.{body_there, code_there}
-use borrow.Author.Rules.{rules}
 use Rattle.places.proofs.command_at.Goals as goal
 
 module _ (t starts : List ℕ) (f : Frame) (k : Known t starts) (on : is_placed (program_of t) f ≡ true) where

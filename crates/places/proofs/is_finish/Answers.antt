@@ -3,7 +3,6 @@ use mathlib.Core.Path.{ap}
 use lib.Dec.{eqb}
 use Rattle.program.specs.Command.{opcode}
 use Rattle.program.specs.declared.command.Command.{Command}
-use borrow.Author.Rules.{rules}
 use Rattle.places.proofs.is_finish.Goals as goal
 
 pub returns : goal.returns

@@ -1,8 +1,7 @@
 -- Each arm is its command's function.
 use mathlib.Core.Path.{refl}
 use Rattle.rules.specs.Waiting.{waits_for}
-use Rattle.turns.proofs.Carrying.{matched, matched_simply, matched_ranging, plain, plain_simply, plain_ranging}
-use borrow.Author.Rules.{rules}
+use Rattle.turns.proofs.Carrying.{matched_ranging, plain, plain_simply, plain_ranging}
 use Rattle.turns.proofs.carry_out.Goals as goal
 
 pub returns-in-Clock : goal.returns-in-Clock

@@ -3,7 +3,6 @@ use native.Mathlib.Omega.{arith}
 use mathlib.Core.Path.{sym, ◌∙◌}
 use Rattle.turns.proofs.Looking.{not_spawned, has_ended, some, turned, told}
 use Rattle.turns.proofs.Turning.{refused}
-use borrow.Author.Rules.{rules}
 use Rattle.turns.proofs.turn.Goals as goal
 
 pub returns-then-made-i : goal.returns-then-made-i

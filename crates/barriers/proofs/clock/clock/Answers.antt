@@ -2,7 +2,6 @@
 use mathlib.Core.Path.{sym, ◌∙◌}
 use Rattle.moves.proofs.Standings.{over, spent}
 use Rattle.barriers.proofs.Clocking.{held_fault, full, clocked}
-use borrow.Author.Rules.{rules}
 use Rattle.barriers.proofs.clock.clock.Goals as goal
 
 pub returns-then-is_held : goal.returns-then-is_held

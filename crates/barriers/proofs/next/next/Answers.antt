@@ -3,7 +3,6 @@ use mathlib.Core.Path.{sym, ap, ◌∙◌}
 use Rattle.rules.specs.State.{is_at_barrier}
 use Rattle.moves.proofs.Standings.{few, over, spent}
 use Rattle.barriers.proofs.Nexts.{last_phase, gone, arrived}
-use borrow.Author.Rules.{rules}
 use Rattle.barriers.proofs.next.next.Goals as goal
 
 pub returns-then-is_spent : goal.returns-then-is_spent

@@ -1,12 +1,10 @@
 -- One hold after the other.
 use Prim.Native.Nat.{◌-◌}
-use mathlib.Core.Path.{◌≡◌, refl, ◌∙◌}
+use mathlib.Core.Path.{◌≡◌}
 use lib.ListN.{length}
 use Rattle.rules.specs.Clocks.{pass}
 use Rattle.barriers.specs.Mapped.{Passable}
-use Rattle.barriers.proofs.Mapping.{MapsTo, map_none, map_more, map_skip, map_done}
-use Rattle.barriers.proofs.Nexts.{pass_free, pass_fits}
-use borrow.Author.Rules.{rules}
+use Rattle.barriers.proofs.Mapping.{MapsTo}
 use Rattle.barriers.proofs.next.pass_all.Given as goal
 
 abbrev pub invariant-loop-k : goal.invariant-loop-k

@@ -1,12 +1,7 @@
 -- One hold after the other.
-use Prim.Native.Nat.{◌-◌}
-use mathlib.Core.Path.{◌≡◌, refl, ◌∙◌}
-use lib.ListN.{length}
-use Rattle.rules.specs.Clocks.{quiesce}
-use Rattle.barriers.specs.Mapped.{Any}
-use Rattle.barriers.proofs.Mapping.{MapsTo, map_none, map_more, map_skip, map_done}
+use mathlib.Core.Path.{refl, ◌∙◌}
+use Rattle.barriers.proofs.Mapping.{map_none, map_more, map_skip, map_done}
 use Rattle.barriers.proofs.Nexts.{quiesce_free}
-use borrow.Author.Rules.{rules}
 use Rattle.barriers.proofs.next.quiesce_all.Goals as goal
 
 pub loop-k-init : goal.loop-k-init

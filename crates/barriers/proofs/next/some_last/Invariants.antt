@@ -1,15 +1,11 @@
 -- A search over the eight.
 use Prim.Native.Nat.{◌-◌, ◌≤◌}
-use native.Mathlib.Omega.{arith}
-use mathlib.Core.Path.{refl, sym, ap, ◌∙◌}
 use mathlib.Core.Bool.{false}
 use Rattle.rules.specs.declared.state.Activity.{Activity}
 use Rattle.rules.specs.Search.{some_below}
-use Rattle.rules.specs.State.{act, hold}
-use Rattle.places.proofs.Searches.{found, passed, none}
-use Rattle.moves.specs.Exceeding.{is_last, some_last}
+use Rattle.rules.specs.State.{hold}
+use Rattle.moves.specs.Exceeding.{is_last}
 use Rattle.fields.specs.Lent.{ReadsAct}
-use borrow.Author.Rules.{rules}
 use Rattle.barriers.proofs.next.some_last.Given as goal
 
 abbrev pub invariant-loop-k : goal.invariant-loop-k

@@ -2,7 +2,6 @@
 use mathlib.Core.Path.{sym, ◌∙◌}
 use Rattle.moves.proofs.Standings.{over, spent}
 use Rattle.barriers.proofs.Reholds.{drop_fault, dropped}
-use borrow.Author.Rules.{rules}
 use Rattle.barriers.proofs.rehold.drop.Goals as goal
 
 pub returns-then-is_spent : goal.returns-then-is_spent

@@ -2,7 +2,6 @@
 use mathlib.Core.Path.{sym, ◌∙◌}
 use Rattle.moves.proofs.Standings.{over, spent}
 use Rattle.barriers.proofs.Reholds.{resume_fault, resumed}
-use borrow.Author.Rules.{rules}
 use Rattle.barriers.proofs.rehold.resume.Goals as goal
 
 pub returns-then-is_spent : goal.returns-then-is_spent

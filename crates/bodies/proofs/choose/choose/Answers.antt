@@ -2,7 +2,6 @@
 use mathlib.Core.Path.{sym, ◌∙◌}
 use Rattle.moves.proofs.Standings.{over, spent}
 use Rattle.bodies.proofs.Pushing.{choose_none, choose_some}
-use borrow.Author.Rules.{rules}
 use Rattle.bodies.proofs.choose.choose.Goals as goal
 
 pub returns-then-is_spent : goal.returns-then-is_spent

@@ -1,6 +1,5 @@
 -- The frame, and the step.
 use Rattle.bodies.proofs.Ends.{again_done}
-use borrow.Author.Rules.{rules}
 use Rattle.bodies.proofs.end.again.Goals as goal
 
 pub returns : goal.returns

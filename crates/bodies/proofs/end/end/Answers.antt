@@ -3,7 +3,6 @@ use mathlib.Core.Path.{sym, ◌∙◌}
 use borrow.Author.Tests.{ne_eqb}
 use Rattle.moves.proofs.Standings.{over, spent}
 use Rattle.bodies.proofs.Ends.{passed_on_lem, ended, reran, popped_out}
-use borrow.Author.Rules.{rules}
 use Rattle.bodies.proofs.end.end.Goals as goal
 
 pub returns-then-faulted : goal.returns-then-faulted

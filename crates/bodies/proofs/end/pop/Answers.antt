@@ -1,8 +1,5 @@
 -- The frame, the depth, and on.
-use native.Mathlib.Omega.{arith}
-use mathlib.Core.Path.{refl}
 use Rattle.bodies.proofs.Ends.{pop_done}
-use borrow.Author.Rules.{rules}
 use Rattle.bodies.proofs.end.pop.Goals as goal
 
 pub returns : goal.returns

@@ -2,7 +2,6 @@
 use mathlib.Core.Path.{sym, ◌∙◌}
 use Rattle.moves.proofs.Standings.{over, spent}
 use Rattle.bodies.proofs.Pushing.{finish_done}
-use borrow.Author.Rules.{rules}
 use Rattle.bodies.proofs.finish.finish.Goals as goal
 
 pub returns-then-is_spent : goal.returns-then-is_spent

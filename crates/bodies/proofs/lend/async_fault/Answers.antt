@@ -1,6 +1,5 @@
 -- Nothing is lent, F3, or F1 and F2.
 use Rattle.bodies.proofs.Lending.{lends_nothing, lends_inside, lends_outside}
-use borrow.Author.Rules.{rules}
 use Rattle.bodies.proofs.lend.async_fault.Goals as goal
 
 pub returns-then-m-eq0 : goal.returns-then-m-eq0

@@ -1,14 +1,11 @@
 -- A search over the frames below the top.
 use Prim.Native.Nat.{◌-◌, ◌≤◌}
-use native.Mathlib.Omega.{arith}
 use mathlib.Core.Bool.{false}
 use Rattle.program.specs.Bodies.{Program}
 use Rattle.rules.specs.declared.state.Activity.{Activity}
 use Rattle.rules.specs.Search.{some_below}
 use Rattle.rules.specs.Tree.{finishes}
 use Rattle.bodies.specs.Lends.{ReadsIn}
-use Rattle.bodies.proofs.Lending.{own_start, own_found, own_passed, own_none}
-use borrow.Author.Rules.{rules}
 use Rattle.bodies.proofs.lend.in_own_finish.Given as goal
 
 abbrev pub invariant-loop-d : goal.invariant-loop-d

@@ -1,8 +1,6 @@
 -- One name after the other.
-use Prim.Native.Nat.{◌-◌}
 use mathlib.Core.Path.{sym, ◌∙◌}
-use Rattle.bodies.proofs.Lending.{LendsTo, lend_none, lend_skip, lend_free, lend_live, lend_quiet, lend_done}
-use borrow.Author.Rules.{rules}
+use Rattle.bodies.proofs.Lending.{lend_none, lend_skip, lend_free, lend_live, lend_quiet, lend_done}
 use Rattle.bodies.proofs.lend.lend_fault.Goals as goal
 
 pub loop-k-init : goal.loop-k-init

@@ -1,8 +1,5 @@
 -- The frame, the depth, and a step.
-use native.Mathlib.Omega.{arith}
-use mathlib.Core.Path.{refl}
 use Rattle.bodies.proofs.Pushing.{push_done}
-use borrow.Author.Rules.{rules}
 use Rattle.bodies.proofs.push.push.Goals as goal
 
 pub returns : goal.returns

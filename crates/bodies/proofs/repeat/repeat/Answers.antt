@@ -2,7 +2,6 @@
 use mathlib.Core.Path.{sym, ◌∙◌}
 use Rattle.moves.proofs.Standings.{over, spent}
 use Rattle.bodies.proofs.Pushing.{repeat_none, repeat_some}
-use borrow.Author.Rules.{rules}
 use Rattle.bodies.proofs.repeat.repeat.Goals as goal
 
 pub returns-then-is_spent : goal.returns-then-is_spent

@@ -3,7 +3,6 @@ use native.Mathlib.Omega.{arith}
 use mathlib.Core.Path.{refl, sym, ◌∙◌}
 use Rattle.moves.proofs.Standings.{few, over, spent}
 use Rattle.bodies.proofs.Spawns.{grown, crowded, born}
-use borrow.Author.Rules.{rules}
 use Rattle.bodies.proofs.spawn.fork.Goals as goal
 
 pub returns-then-is_spent : goal.returns-then-is_spent

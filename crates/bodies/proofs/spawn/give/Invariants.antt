@@ -1,9 +1,8 @@
 -- One name after the other.
 use Prim.Native.Nat.{◌-◌}
-use mathlib.Core.Path.{◌≡◌, refl, sym, ◌∙◌}
+use mathlib.Core.Path.{◌≡◌}
 use lib.ListN.{length}
-use Rattle.bodies.proofs.Giving.{GivesTo, give_none, give_more, give_skip, give_done}
-use borrow.Author.Rules.{rules}
+use Rattle.bodies.proofs.Giving.{GivesTo}
 use Rattle.bodies.proofs.spawn.give.Given as goal
 
 abbrev pub invariant-loop-k : goal.invariant-loop-k

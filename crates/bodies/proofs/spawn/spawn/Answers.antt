@@ -1,7 +1,6 @@
 -- The child, or the fault.
 use mathlib.Core.Path.{◌∙◌}
 use Rattle.bodies.proofs.Spawns.{met, met_number}
-use borrow.Author.Rules.{rules}
 use Rattle.bodies.proofs.spawn.spawn.Goals as goal
 
 pub returns-then-f-eq0 : goal.returns-then-f-eq0

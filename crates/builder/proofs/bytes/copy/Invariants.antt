@@ -1,9 +1,8 @@
 -- The first i bytes are copied, and behind them the buffer is as it was.
 use Prim.Native.Nat.{◌≤◌, ◌-◌}
-use native.Mathlib.Omega.{arith}
-use mathlib.Core.Path.{◌≡◌, refl, ap, ◌∙◌}
-use lib.ListN.{length, get_or, set}
-use Rattle.builder.proofs.Copied.{copied, copied_more, copied_long, copied_all}
+use mathlib.Core.Path.{◌≡◌}
+use lib.ListN.{length}
+use Rattle.builder.proofs.Copied.{copied}
 use Rattle.builder.proofs.bytes.copy.Given as goal
 
 abbrev pub invariant-loop-i : goal.invariant-loop-i

@@ -2,13 +2,12 @@
 use Prim.Native.Nat.{◌-◌, ◌+◌, ◌<◌}
 use native.Mathlib.Omega.{arith}
 use native.Mathlib.Nat.{add-sub_cancel_left}
-use mathlib.Core.Path.{◌≡◌, sym, ap, ◌∙◌}
+use mathlib.Core.Path.{◌≡◌, ap, ◌∙◌}
 use mathlib.Core.List.{[]}
-use borrow.Author.Rules.{rules}
-use lib.ListN.{length, get_or, take, drop, length-drop, length-set}
+use lib.ListN.{length, get_or, take, drop, length-drop}
 use lib.Seq.{length-take-le}
 use Rattle.program.proofs.RowLaws.{width_few}
-use Rattle.builder.proofs.Filling.{Filling, filling_none, filling_over, filling_more, filling_done}
+use Rattle.builder.proofs.Filling.{filling_over, filling_more, filling_done}
 use Rattle.builder.proofs.bytes.fill.Goals as goal
 
 pub returns-then-at-size-gt2048 : goal.returns-then-at-size-gt2048

@@ -1,10 +1,8 @@
 -- The first i bytes are those of the entry.
 use Prim.Native.Nat.{◌≤◌, ◌-◌}
-use native.Mathlib.Omega.{arith}
-use mathlib.Core.Path.{◌≡◌, refl, ap, ◌∙◌}
-use borrow.Author.Rules.{rules}
-use lib.ListN.{length, get_or, set}
-use Rattle.builder.proofs.Copied.{copied, copied_more, copied_long, copied_over}
+use mathlib.Core.Path.{◌≡◌}
+use lib.ListN.{length}
+use Rattle.builder.proofs.Copied.{copied}
 use Rattle.builder.proofs.bytes.put_entry.Given as goal
 
 abbrev pub invariant-loop-i : goal.invariant-loop-i

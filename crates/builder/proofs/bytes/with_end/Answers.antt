@@ -1,6 +1,5 @@
 -- An END counts one, up to 17.
 use native.Mathlib.Omega.{arith}
-use borrow.Author.Rules.{rules}
 use borrow.Author.Tests.{ne_eqb, eq-eqb}
 use Rattle.builder.specs.Filled.{Counted}
 use Rattle.builder.proofs.bytes.with_end.Goals as goal

@@ -1,9 +1,8 @@
 -- The first n commands are passed.
-use Prim.Native.Nat.{◌+◌, ◌-◌, ◌≤◌, ◌<◌}
+use Prim.Native.Nat.{◌+◌, ◌≤◌, ◌<◌}
 use native.Mathlib.Omega.{arith}
-use borrow.Author.Rules.{rules}
 use lib.ListN.{length}
-use Rattle.builder.proofs.Walking.{Walking, walking_none, walking_done, walking_fits, walking_on}
+use Rattle.builder.proofs.Walking.{walking_none, walking_done, walking_fits, walking_on}
 use Rattle.builder.proofs.commands.count.Goals as goal
 
 pub loop-at-preserved : goal.loop-at-preserved

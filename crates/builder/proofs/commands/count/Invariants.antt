@@ -1,9 +1,7 @@
 -- The first n commands are passed.
-use Prim.Native.Nat.{◌+◌, ◌-◌, ◌≤◌, ◌<◌}
-use native.Mathlib.Omega.{arith}
-use borrow.Author.Rules.{rules}
+use Prim.Native.Nat.{◌-◌}
 use lib.ListN.{length}
-use Rattle.builder.proofs.Walking.{Walking, walking_none, walking_done, walking_fits, walking_on}
+use Rattle.builder.proofs.Walking.{Walking}
 use Rattle.builder.proofs.commands.count.Given as goal
 
 abbrev pub invariant-loop-at : goal.invariant-loop-at

@@ -1,5 +1,4 @@
 -- The bytes are those of the definition, one by one.
-use borrow.Author.Rules.{rules}
 use Rattle.builder.specs.Build.{entry_of}
 use Rattle.builder.proofs.entry.entry_of.Goals as goal
 

@@ -1,7 +1,6 @@
 -- Zeros, and the version over them.
-use Rattle.calls.proofs.Beginning.{none_written, stays}
+use Rattle.calls.proofs.Beginning.{none_written}
 use mathlib.Core.Path.{refl}
-use borrow.Author.Rules.{rules}
 use Rattle.calls.proofs.begin.put_none.Goals as goal
 
 pub returns-then-state-eq13776 : goal.returns-then-state-eq13776

@@ -1,6 +1,5 @@
 -- The state of zeros, with main.
-use Rattle.calls.proofs.Beginning.{start_written, stays}
-use borrow.Author.Rules.{rules}
+use Rattle.calls.proofs.Beginning.{start_written}
 use Rattle.calls.proofs.begin.put_start.Goals as goal
 
 pub returns-then-state-eq13776 : goal.returns-then-state-eq13776

@@ -1,7 +1,6 @@
 -- The length decides.
 use mathlib.Core.Path.{◌∙◌}
 use borrow.Author.Tests.{eq-eqb, ne_eqb}
-use borrow.Author.Rules.{rules}
 use Rattle.calls.specs.Calls.{fits_sheet}
 use Rattle.calls.proofs.sheet.put_none.Goals as goal
 

@@ -1,10 +1,7 @@
 -- The first i bytes are the same.
 use Prim.Native.Nat.{◌≤◌, ◌-◌}
-use native.Mathlib.Omega.{arith}
-use mathlib.Core.Path.{◌≡◌, refl, sym, ◌∙◌}
-use lib.ListN.{length, take, length-set}
-use borrow.Author.Rules.{rules}
-use Rattle.encoding.proofs.NumberLaws.{copy_more, copy_done}
+use mathlib.Core.Path.{◌≡◌}
+use lib.ListN.{length, take}
 use Rattle.calls.proofs.sheet.put_row.Given as goal
 
 abbrev pub invariant-loop-i : goal.invariant-loop-i

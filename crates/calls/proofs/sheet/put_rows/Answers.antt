@@ -1,10 +1,5 @@
 -- The first i rows are written.
-use Prim.Native.Nat.{◌-◌}
-use native.Mathlib.Omega.{arith}
-use mathlib.Core.Path.{sym, ◌∙◌}
-use Rattle.encoding.proofs.PartLaws.{turn_sized}
-use Rattle.calls.proofs.Rows.{Rowed, rowed_none, rowed_more, rowed_all}
-use borrow.Author.Rules.{rules}
+use Rattle.calls.proofs.Rows.{rowed_none, rowed_more, rowed_all}
 use Rattle.calls.proofs.sheet.put_rows.Goals as goal
 
 pub loop-i-init : goal.loop-i-init

@@ -1,10 +1,6 @@
 -- The first i rows are written.
 use Prim.Native.Nat.{◌-◌}
-use native.Mathlib.Omega.{arith}
-use mathlib.Core.Path.{sym, ◌∙◌}
-use Rattle.encoding.proofs.PartLaws.{turn_sized}
-use Rattle.calls.proofs.Rows.{Rowed, rowed_none, rowed_more, rowed_all}
-use borrow.Author.Rules.{rules}
+use Rattle.calls.proofs.Rows.{Rowed}
 use Rattle.calls.proofs.sheet.put_rows.Given as goal
 
 abbrev pub invariant-loop-i : goal.invariant-loop-i

@@ -1,6 +1,5 @@
 -- Field by field.
 use Rattle.encoding.specs.Decode.{accumulator_at}
-use borrow.Author.Rules.{rules}
 use Rattle.encoding.proofs.accumulators.accumulator_at.Goals as goal
 
 pub returns : goal.returns

@@ -1,7 +1,6 @@
 -- The first field that breaks its rule decides.
 use borrow.Author.Tests.{lt-leb, le-leb}
 use Rattle.encoding.specs.Decode.{accumulator_encodes}
-use borrow.Author.Rules.{rules}
 use Rattle.encoding.proofs.accumulators.accumulator_encodes.Goals as goal
 
 pub returns-then-operator-gt2 : goal.returns-then-operator-gt2

@@ -1,8 +1,5 @@
 -- The parts from i on decide.
-use Prim.Native.Nat.{◌-◌}
-use native.Mathlib.Omega.{arith}
-use Rattle.encoding.specs.Decode.{accumulator_encodes}
-use Rattle.encoding.proofs.PartLaws.{turn_sized, Passing, pass_none, pass_on, pass_not, pass_done}
+use Rattle.encoding.proofs.PartLaws.{pass_on, pass_not, pass_done}
 use Rattle.encoding.proofs.accumulators.accumulators_encode.Goals as goal
 
 pub loop-i-preserved : goal.loop-i-preserved

@@ -1,10 +1,7 @@
 -- The first i entries are written.
-use Prim.Native.Nat.{◌-◌}
-use native.Mathlib.Omega.{arith}
-use mathlib.Core.Path.{sym, ◌∙◌}
 use borrow.Author.Rules.{rules}
 use Rattle.encoding.specs.Encode.{encode_accumulator}
-use Rattle.encoding.proofs.PartLaws.{turn_sized, Each, write_none, write_more, write_done}
+use Rattle.encoding.proofs.PartLaws.{write_none, write_more}
 use Rattle.encoding.proofs.accumulators.put_accumulators.Goals as goal
 
 pub loop-i-init : goal.loop-i-init

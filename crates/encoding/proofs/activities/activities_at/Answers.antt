@@ -1,9 +1,7 @@
 -- The first i entries are read.
-use Prim.Native.Nat.{◌-◌}
-use native.Mathlib.Omega.{arith}
 use mathlib.Core.Path.{refl}
 use Rattle.encoding.specs.Decode.{activity_at, activity_encodes}
-use Rattle.encoding.proofs.PartLaws.{turn_sized, pass_turn, Reads, read_none, read_more, read_done}
+use Rattle.encoding.proofs.PartLaws.{turn_sized, pass_turn, read_none, read_more}
 use Rattle.encoding.proofs.activities.activities_at.Goals as goal
 
 pub activity_at-a-requires : goal.activity_at-a-requires

@@ -4,7 +4,6 @@ use mathlib.Core.Path.{refl}
 use Rattle.encoding.specs.Decode.{activity_at}
 use Rattle.encoding.proofs.FieldLaws.{sized}
 use Rattle.encoding.proofs.Passed.{activity_passes_lem}
-use borrow.Author.Rules.{rules}
 use Rattle.encoding.proofs.activities.activity_at.Goals as goal
 
 pub holds_at-holds-requires : goal.holds_at-holds-requires

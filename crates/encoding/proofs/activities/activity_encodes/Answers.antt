@@ -2,7 +2,6 @@
 use mathlib.Core.Path.{sym, ◌∙◌}
 use borrow.Author.Tests.{not-true, not-false}
 use Rattle.encoding.specs.Decode.{activity_encodes}
-use borrow.Author.Rules.{rules}
 use Rattle.encoding.proofs.activities.activity_encodes.Goals as goal
 
 pub returns-then-not-status_passes : goal.returns-then-not-status_passes

@@ -2,14 +2,13 @@
 use Prim.Native.Nat.{ℕ}
 use native.Mathlib.Omega.{arith}
 use mathlib.Core.List.{List, [], ◌∷◌, ◌++◌}
-use mathlib.Core.Path.{refl, sym, ◌∙◌}
-use lib.ListN.{set, length-set}
+use mathlib.Core.Path.{refl}
+use lib.ListN.{set}
 use borrow.Rule.Slice.PartMut.{put_mid}
 use Rattle.rules.specs.declared.state.Activity.{Activity}
 use Rattle.encoding.specs.Bytes.{bytes_of, encode_each}
 use Rattle.encoding.specs.Encode.{status_byte, fault_byte, encode_hold, encode_activity}
 use Rattle.encoding.proofs.FieldLaws.{Upto, none_yet, store, store_as, put, put_of, all}
-use borrow.Author.Rules.{rules}
 use Rattle.encoding.proofs.activities.put_activity.Goals as goal
 
 -- the bytes of an activity up to each of them

@@ -2,7 +2,6 @@
 use mathlib.Core.Path.{sym, ◌∙◌}
 use borrow.Author.Tests.{eq-eqb, ne_eqb, le-leb, lt-leb, not-true, not-false}
 use Rattle.encoding.specs.Decode.{fields_encode}
-use borrow.Author.Rules.{rules}
 use Rattle.encoding.proofs.fields.fields_encode.Goals as goal
 
 pub returns-then-version-ne1 : goal.returns-then-version-ne1

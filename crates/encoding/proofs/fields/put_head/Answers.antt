@@ -2,14 +2,13 @@
 use Prim.Native.Nat.{ℕ}
 use native.Mathlib.Omega.{arith}
 use mathlib.Core.List.{List, [], ◌∷◌, ◌++◌}
-use mathlib.Core.Path.{refl, sym, ◌∙◌}
-use lib.ListN.{replicate, set, length-set}
+use mathlib.Core.Path.{refl}
+use lib.ListN.{replicate, set}
 use borrow.Rule.Slice.PartMut.{put_mid}
 use Rattle.rules.specs.declared.state.State.{State}
 use Rattle.encoding.specs.Bytes.{bytes_of, encode_each}
 use Rattle.encoding.specs.Encode.{encode_head}
 use Rattle.encoding.proofs.FieldLaws.{Upto, none_yet, store, put, put_of, all}
-use borrow.Author.Rules.{rules}
 use Rattle.encoding.proofs.fields.put_head.Goals as goal
 
 -- the bytes of a state up to each of them

@@ -1,13 +1,10 @@
 -- Behind the head the first i activities are written.
-use Prim.Native.Nat.{◌+◌, ◌-◌, ◌*◌}
 use native.Mathlib.Omega.{arith}
-use mathlib.Core.Path.{◌≡◌, refl, sym, ◌∙◌}
-use lib.ListN.{length, length-map}
-use Rattle.rules.specs.contracts.state.Activity
+use mathlib.Core.Path.{◌≡◌, refl}
+use lib.ListN.{length}
 use Rattle.encoding.specs.Encode.{encode_activity, encode_head, encode_state}
-use Rattle.encoding.proofs.FieldLaws.{sized, none_yet, put}
-use Rattle.encoding.proofs.PartLaws.{Behind, behind_none, behind_more, behind_done}
-use borrow.Author.Rules.{rules}
+use Rattle.encoding.proofs.FieldLaws.{none_yet, put}
+use Rattle.encoding.proofs.PartLaws.{behind_none, behind_more, behind_done}
 use Rattle.encoding.proofs.fields.put_state.Goals as goal
 
 pub loop-i-init : goal.loop-i-init

@@ -4,7 +4,6 @@ use mathlib.Core.Path.{refl}
 use Rattle.encoding.specs.Decode.{state_of}
 use Rattle.encoding.proofs.FieldLaws.{sized}
 use Rattle.encoding.proofs.Passed.{state_passes}
-use borrow.Author.Rules.{rules}
 use Rattle.encoding.proofs.fields.state_at.Goals as goal
 
 pub overflow_cast-steps : goal.overflow_cast-steps

@@ -5,7 +5,6 @@ use Rattle.encoding.specs.Bytes.{part}
 use Rattle.encoding.specs.Decode.{frame_at}
 use Rattle.encoding.proofs.NumberLaws.{number_below}
 use Rattle.encoding.proofs.FieldLaws.{sized, part_bytes}
-use borrow.Author.Rules.{rules}
 use Rattle.encoding.proofs.frames.frame_at.Goals as goal
 
 pub overflow_cast-offset : goal.overflow_cast-offset

@@ -1,6 +1,5 @@
 -- The reserved bytes decide.
 use Rattle.encoding.specs.Decode.{frame_encodes}
-use borrow.Author.Rules.{rules}
 use Rattle.encoding.proofs.frames.frame_encodes.Goals as goal
 
 pub returns : goal.returns

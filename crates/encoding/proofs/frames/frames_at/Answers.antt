@@ -1,9 +1,7 @@
 -- The first i entries are read.
-use Prim.Native.Nat.{◌-◌}
-use native.Mathlib.Omega.{arith}
 use mathlib.Core.Path.{refl}
 use Rattle.encoding.specs.Decode.{frame_at}
-use Rattle.encoding.proofs.PartLaws.{turn_sized, Reads, read_none, read_more, read_done}
+use Rattle.encoding.proofs.PartLaws.{read_none, read_more}
 use Rattle.encoding.proofs.frames.frames_at.Goals as goal
 
 pub loop-i-preserved : goal.loop-i-preserved

@@ -1,8 +1,7 @@
 -- The parts from i on decide.
 use Prim.Native.Nat.{◌-◌}
-use native.Mathlib.Omega.{arith}
 use Rattle.encoding.specs.Decode.{frame_encodes}
-use Rattle.encoding.proofs.PartLaws.{turn_sized, Passing, pass_none, pass_on, pass_not, pass_done}
+use Rattle.encoding.proofs.PartLaws.{Passing}
 use Rattle.encoding.proofs.frames.frames_encode.Given as goal
 
 abbrev pub invariant-loop-i : goal.invariant-loop-i

@@ -2,14 +2,12 @@
 use native.Mathlib.Omega.{arith}
 use Prim.Native.Nat.{ℕ}
 use mathlib.Core.List.{List, [], ◌∷◌, ◌++◌}
-use mathlib.Core.Path.{sym, ◌∙◌}
-use lib.ListN.{replicate, set, length-set}
+use lib.ListN.{replicate, set}
 use borrow.Rule.Slice.PartMut.{put_mid}
 use Rattle.rules.specs.declared.state.Frame.{Frame}
 use Rattle.encoding.specs.Bytes.{bytes_of}
 use Rattle.encoding.specs.Encode.{encode_frame}
 use Rattle.encoding.proofs.FieldLaws.{Upto, none_yet, store, put_of, all}
-use borrow.Author.Rules.{rules}
 use Rattle.encoding.proofs.frames.put_frame.Goals as goal
 
 pub returns : goal.returns

@@ -2,7 +2,6 @@
 use native.Mathlib.Omega.{arith}
 use Rattle.encoding.specs.Decode.{hold_at}
 use Rattle.encoding.proofs.Passed.{hold_passes}
-use borrow.Author.Rules.{rules}
 use Rattle.encoding.proofs.holds.hold_at.Goals as goal
 
 pub overflow_cast-phase : goal.overflow_cast-phase

@@ -1,7 +1,6 @@
 -- The first field that breaks its rule decides.
 use borrow.Author.Tests.{lt-leb, le-leb}
 use Rattle.encoding.specs.Decode.{hold_encodes}
-use borrow.Author.Rules.{rules}
 use Rattle.encoding.proofs.holds.hold_encodes.Goals as goal
 
 pub returns-then-phase-gt-LIMIT : goal.returns-then-phase-gt-LIMIT

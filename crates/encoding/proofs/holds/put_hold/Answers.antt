@@ -2,15 +2,13 @@
 use Prim.Native.Nat.{ℕ}
 use native.Mathlib.Omega.{arith}
 use mathlib.Core.List.{List, [], ◌∷◌, ◌++◌}
-use mathlib.Core.Path.{sym, ◌∙◌}
-use lib.ListN.{replicate, set, length-set}
+use lib.ListN.{replicate, set}
 use borrow.Rule.Slice.PartMut.{put_mid}
 use Rattle.rules.specs.declared.state.Hold.{Hold}
 use Rattle.rules.specs.State.{registration_number}
 use Rattle.encoding.specs.Bytes.{bytes_of}
 use Rattle.encoding.specs.Encode.{encode_hold}
 use Rattle.encoding.proofs.FieldLaws.{Upto, none_yet, store, store_as, put_of, all}
-use borrow.Author.Rules.{rules}
 use Rattle.encoding.proofs.holds.put_hold.Goals as goal
 
 pub returns : goal.returns

@@ -1,12 +1,8 @@
 -- The bytes from i on decide.
-use Prim.Native.Nat.{◌≤◌, ◌+◌, ◌-◌}
-use native.Mathlib.Omega.{arith}
-use mathlib.Core.Path.{◌≡◌, refl, sym, ap, ◌∙◌}
-use lib.ListN.{length, drop, drop_of_length-le}
-use borrow.Author.Rules.{rules}
-use borrow.Author.Tests.{eq-eqb, ne_eqb}
+use Prim.Native.Nat.{◌≤◌, ◌-◌}
+use mathlib.Core.Path.{◌≡◌}
+use lib.ListN.{length, drop}
 use Rattle.encoding.specs.Bytes.{all_zero}
-use Rattle.encoding.proofs.NumberLaws.{zeros_more}
 use Rattle.encoding.proofs.numbers.are_zero.Given as goal
 
 abbrev pub invariant-loop-i : goal.invariant-loop-i

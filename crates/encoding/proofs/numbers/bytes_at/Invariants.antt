@@ -1,9 +1,7 @@
 -- The first i bytes are the same.
 use Prim.Native.Nat.{◌≤◌, ◌-◌}
-use native.Mathlib.Omega.{arith}
-use mathlib.Core.Path.{◌≡◌, refl}
-use lib.ListN.{length, take, length-set}
-use Rattle.encoding.proofs.NumberLaws.{copy_more, copy_done}
+use mathlib.Core.Path.{◌≡◌}
+use lib.ListN.{length, take}
 use Rattle.encoding.proofs.numbers.bytes_at.Given as goal
 
 abbrev pub invariant-loop-i : goal.invariant-loop-i

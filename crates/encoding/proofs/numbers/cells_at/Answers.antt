@@ -1,9 +1,7 @@
 -- The first i numbers are read.
-use Prim.Native.Nat.{◌-◌}
-use native.Mathlib.Omega.{arith}
 use mathlib.Core.Path.{refl}
 use Rattle.encoding.specs.Bytes.{number_of}
-use Rattle.encoding.proofs.PartLaws.{turn_sized, Reads, read_none, read_more, read_done}
+use Rattle.encoding.proofs.PartLaws.{read_none, read_more}
 use Rattle.encoding.proofs.numbers.cells_at.Goals as goal
 
 pub loop-i-preserved : goal.loop-i-preserved

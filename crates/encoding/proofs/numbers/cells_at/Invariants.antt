@@ -1,9 +1,7 @@
 -- The first i numbers are read.
 use Prim.Native.Nat.{◌-◌}
-use native.Mathlib.Omega.{arith}
-use mathlib.Core.Path.{refl}
 use Rattle.encoding.specs.Bytes.{number_of}
-use Rattle.encoding.proofs.PartLaws.{turn_sized, Reads, read_none, read_more, read_done}
+use Rattle.encoding.proofs.PartLaws.{Reads}
 use Rattle.encoding.proofs.numbers.cells_at.Given as goal
 
 abbrev pub invariant-loop-i : goal.invariant-loop-i

@@ -1,8 +1,8 @@
 -- The number of what lies from i on.
-use Prim.Native.Nat.{◌≤◌, ◌<◌, ◌-◌, ◌^◌}
+use Prim.Native.Nat.{◌<◌, ◌-◌, ◌^◌}
 use native.Mathlib.Omega.{arith}
-use mathlib.Core.Path.{◌≡◌, sym, ap, ◌∙◌}
-use lib.ListN.{length, drop, length-drop}
+use mathlib.Core.Path.{sym, ap}
+use lib.ListN.{drop, length-drop}
 use lib.Seq.{drop-length}
 use Rattle.encoding.specs.Bytes.{number_of}
 use Rattle.program.proofs.Basic.{Bytes, bytes_drop}

@@ -1,12 +1,8 @@
 -- The number of what lies from i on.
-use Prim.Native.Nat.{◌≤◌, ◌<◌, ◌-◌, ◌^◌}
-use native.Mathlib.Omega.{arith}
-use mathlib.Core.Path.{◌≡◌, sym, ap, ◌∙◌}
-use lib.ListN.{length, drop, length-drop}
-use lib.Seq.{drop-length}
+use Prim.Native.Nat.{◌≤◌}
+use mathlib.Core.Path.{◌≡◌}
+use lib.ListN.{length, drop}
 use Rattle.encoding.specs.Bytes.{number_of}
-use Rattle.program.proofs.Basic.{Bytes, bytes_drop}
-use Rattle.encoding.proofs.NumberLaws.{number_below, number_more}
 use Rattle.encoding.proofs.numbers.number.Given as goal
 
 abbrev pub invariant-loop-i : goal.invariant-loop-i

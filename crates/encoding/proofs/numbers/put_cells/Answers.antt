@@ -1,11 +1,9 @@
 -- The first i numbers are written.
-use Prim.Native.Nat.{◌-◌}
-use native.Mathlib.Omega.{arith}
-use mathlib.Core.Path.{sym, ap, ◌∙◌}
+use mathlib.Core.Path.{ap, ◌∙◌}
 use lib.ListN.{get_or}
 use borrow.Author.Rules.{rules}
 use Rattle.encoding.specs.Bytes.{bytes_of}
-use Rattle.encoding.proofs.PartLaws.{turn_sized, Each, write_none, write_more, write_done}
+use Rattle.encoding.proofs.PartLaws.{turn_sized, write_none, write_more}
 use Rattle.encoding.proofs.numbers.put_cells.Goals as goal
 
 pub loop-i-init : goal.loop-i-init

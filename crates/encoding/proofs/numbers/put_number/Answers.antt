@@ -1,12 +1,7 @@
 -- What is written, and the bytes of what is left.
-use Prim.Native.Nat.{◌≤◌, ◌-◌}
 use native.Mathlib.Omega.{arith}
-use native.Mathlib.Nat.{sub-zero}
-use mathlib.Core.List.{◌++◌}
-use mathlib.Core.Path.{◌≡◌, refl, ◌∙◌}
-use lib.ListN.{length, take, length-set}
-use borrow.Author.Rules.{rules}
-use Rattle.encoding.specs.Bytes.{bytes_of}
+use mathlib.Core.Path.{◌∙◌}
+use lib.ListN.{length-set}
 use Rattle.encoding.proofs.NumberLaws.{bytes_more, bytes_done}
 use Rattle.encoding.proofs.numbers.put_number.Goals as goal
 

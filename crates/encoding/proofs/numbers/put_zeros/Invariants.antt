@@ -1,12 +1,8 @@
 -- Zeros, and what is not yet written.
 use Prim.Native.Nat.{◌≤◌, ◌-◌}
-use native.Mathlib.Omega.{arith}
-use mathlib.Core.List.{◌++◌, append-nil}
-use mathlib.Core.Path.{◌≡◌, refl, ap, ◌∙◌}
-use lib.ListN.{length, drop, replicate, set, length-set}
-use lib.Seq.{drop-length}
-use borrow.Author.Rules.{rules}
-use borrow.Author.Fill.{fill_none, fill_more}
+use mathlib.Core.List.{◌++◌}
+use mathlib.Core.Path.{◌≡◌}
+use lib.ListN.{length, drop, replicate}
 use Rattle.encoding.proofs.numbers.put_zeros.Given as goal
 
 abbrev pub invariant-loop-i : goal.invariant-loop-i

@@ -4,7 +4,6 @@ use mathlib.Core.Path.{ap, ◌∙◌}
 use Rattle.rules.specs.State.{accumulator, operator_of}
 use Rattle.encoding.proofs.EnumLaws.{operator_there}
 use Rattle.fields.proofs.Head.{acc_number, value_there, owner_there, operator_byte}
-use borrow.Author.Rules.{rules}
 use Rattle.fields.proofs.accumulators.accumulator_at.Goals as goal
 
 pub returns : goal.returns

@@ -2,7 +2,6 @@
 use native.Mathlib.Omega.{arith}
 use Rattle.fields.proofs.Stands.{lent_length}
 use Rattle.fields.proofs.Head.{acc_write}
-use borrow.Author.Rules.{rules}
 use Rattle.fields.proofs.accumulators.put_accumulator.Goals as goal
 
 pub returns-then-state-ne13776 : goal.returns-then-state-ne13776

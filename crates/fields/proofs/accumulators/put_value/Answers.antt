@@ -1,7 +1,6 @@
 -- Four bytes.
 use native.Mathlib.Omega.{arith}
 use Rattle.fields.proofs.Head.{value_write}
-use borrow.Author.Rules.{rules}
 use Rattle.fields.proofs.accumulators.put_value.Goals as goal
 
 pub returns : goal.returns

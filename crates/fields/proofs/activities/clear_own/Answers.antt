@@ -1,8 +1,6 @@
 -- 192 bytes.
-use native.Mathlib.Omega.{arith}
 use Rattle.fields.proofs.Stands.{lent_length}
 use Rattle.fields.proofs.Own.{clear_write}
-use borrow.Author.Rules.{rules}
 use Rattle.fields.proofs.activities.clear_own.Goals as goal
 
 pub returns-then-state-ne13776 : goal.returns-then-state-ne13776

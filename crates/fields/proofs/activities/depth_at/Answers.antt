@@ -4,7 +4,6 @@ use mathlib.Core.Path.{◌∙◌}
 use Rattle.rules.specs.State.{act}
 use Rattle.fields.proofs.Stands.{own_number}
 use Rattle.fields.proofs.Own.{depth_there}
-use borrow.Author.Rules.{rules}
 use Rattle.fields.proofs.activities.depth_at.Goals as goal
 
 pub returns : goal.returns

@@ -1,7 +1,6 @@
 -- One byte.
 use native.Mathlib.Omega.{arith}
 use Rattle.fields.proofs.Own.{name_read}
-use borrow.Author.Rules.{rules}
 use Rattle.fields.proofs.activities.name_at.Goals as goal
 
 pub returns : goal.returns

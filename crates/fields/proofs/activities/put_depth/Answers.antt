@@ -3,7 +3,6 @@ use native.Mathlib.Omega.{arith}
 use Rattle.rules.specs.State.{act}
 use Rattle.fields.proofs.Stands.{mine, fine_depth, own_put}
 use Rattle.fields.proofs.Own.{depth_put}
-use borrow.Author.Rules.{rules}
 use Rattle.fields.proofs.activities.put_depth.Goals as goal
 
 pub returns : goal.returns

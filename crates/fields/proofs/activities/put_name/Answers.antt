@@ -1,7 +1,6 @@
 -- One byte.
 use native.Mathlib.Omega.{arith}
 use Rattle.fields.proofs.Own.{name_write}
-use borrow.Author.Rules.{rules}
 use Rattle.fields.proofs.activities.put_name.Goals as goal
 
 pub returns : goal.returns

@@ -3,7 +3,6 @@ use native.Mathlib.Omega.{arith}
 use Rattle.rules.specs.State.{act}
 use Rattle.fields.proofs.Stands.{mine, own_put}
 use Rattle.fields.proofs.Own.{fine_spawner, spawner_put}
-use borrow.Author.Rules.{rules}
 use Rattle.fields.proofs.activities.put_spawner.Goals as goal
 
 pub returns : goal.returns

@@ -4,15 +4,14 @@ use mathlib.Core.Path.{◌∙◌}
 use Rattle.rules.specs.State.{act}
 use Rattle.fields.proofs.Stands.{own_number}
 use Rattle.fields.proofs.Own.{status_byte_lem, fault_byte_lem, status_of_bytes}
-use borrow.Author.Rules.{rules}
 use Rattle.fields.proofs.activities.status_at.Goals as goal
 
 pub returns : goal.returns
 returns c =
     record {
-  reads =
-      λ s l j.
-      let x = own_number l j 4 1 c.get1.ensures (omega arith) (omega arith) ∙ status_byte_lem (act s _) in
-      let y = own_number l j 5 1 c.get1-2.ensures (omega arith) (omega arith) ∙ fault_byte_lem (act s _) in
-      c.status_of.ensures ∙ status_of_bytes (act s _).status x y;
-}
+      reads =
+          λ s l j.
+          let x = own_number l j 4 1 c.get1.ensures (omega arith) (omega arith) ∙ status_byte_lem (act s _) in
+          let y = own_number l j 5 1 c.get1-2.ensures (omega arith) (omega arith) ∙ fault_byte_lem (act s _) in
+          c.status_of.ensures ∙ status_of_bytes (act s _).status x y;
+    }

@@ -1,7 +1,6 @@
 -- One byte.
 use native.Mathlib.Omega.{arith}
 use Rattle.fields.proofs.Within.{get_one}
-use borrow.Author.Rules.{rules}
 use Rattle.fields.proofs.bytes.get1.Goals as goal
 
 pub returns : goal.returns

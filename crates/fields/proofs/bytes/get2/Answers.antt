@@ -1,7 +1,6 @@
 -- Two bytes.
 use native.Mathlib.Omega.{arith}
 use Rattle.fields.proofs.Within.{get_two}
-use borrow.Author.Rules.{rules}
 use Rattle.fields.proofs.bytes.get2.Goals as goal
 
 pub returns : goal.returns

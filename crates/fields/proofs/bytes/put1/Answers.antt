@@ -1,7 +1,6 @@
 -- One byte.
 use native.Mathlib.Omega.{arith}
 use Rattle.fields.proofs.Within.{put_one}
-use borrow.Author.Rules.{rules}
 use Rattle.fields.proofs.bytes.put1.Goals as goal
 
 pub returns : goal.returns

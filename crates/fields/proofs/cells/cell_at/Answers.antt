@@ -1,7 +1,6 @@
 -- Four bytes.
 use native.Mathlib.Omega.{arith}
 use Rattle.fields.proofs.Head.{cell_there}
-use borrow.Author.Rules.{rules}
 use Rattle.fields.proofs.cells.cell_at.Goals as goal
 
 pub returns : goal.returns

@@ -1,7 +1,6 @@
 -- Four bytes.
 use native.Mathlib.Omega.{arith}
 use Rattle.fields.proofs.Head.{cell_write}
-use borrow.Author.Rules.{rules}
 use Rattle.fields.proofs.cells.put_cell.Goals as goal
 
 pub returns : goal.returns

@@ -1,6 +1,5 @@
 -- One byte.
 use Rattle.fields.proofs.Head.{activities_there}
-use borrow.Author.Rules.{rules}
 use Rattle.fields.proofs.counts.activities_of.Goals as goal
 
 pub returns : goal.returns

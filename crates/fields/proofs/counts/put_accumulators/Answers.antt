@@ -1,7 +1,6 @@
 -- One byte.
 use native.Mathlib.Omega.{arith}
 use Rattle.fields.proofs.Head.{accumulators_put}
-use borrow.Author.Rules.{rules}
 use Rattle.fields.proofs.counts.put_accumulators.Goals as goal
 
 pub returns : goal.returns

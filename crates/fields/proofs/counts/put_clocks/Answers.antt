@@ -1,7 +1,6 @@
 -- One byte.
 use native.Mathlib.Omega.{arith}
 use Rattle.fields.proofs.Head.{clocks_put}
-use borrow.Author.Rules.{rules}
 use Rattle.fields.proofs.counts.put_clocks.Goals as goal
 
 pub returns : goal.returns

@@ -1,7 +1,6 @@
 -- Four bytes.
 use native.Mathlib.Omega.{arith}
 use Rattle.fields.proofs.Head.{steps_put}
-use borrow.Author.Rules.{rules}
 use Rattle.fields.proofs.counts.put_steps.Goals as goal
 
 pub returns : goal.returns

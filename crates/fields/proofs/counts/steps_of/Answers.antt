@@ -1,6 +1,5 @@
 -- The two lower bytes of four.
 use Rattle.fields.proofs.Head.{steps_there}
-use borrow.Author.Rules.{rules}
 use Rattle.fields.proofs.counts.steps_of.Goals as goal
 
 pub returns : goal.returns

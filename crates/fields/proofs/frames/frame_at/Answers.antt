@@ -1,11 +1,9 @@
 -- Eight bytes.
-use native.Mathlib.Omega.{arith}
 use mathlib.Core.Path.{ap, ◌∙◌}
 use Rattle.rules.specs.State.{act, frame}
 use Rattle.encoding.specs.Decode.{frame_at}
 use Rattle.fields.proofs.Stands.{mine, lent_length}
 use Rattle.fields.proofs.Own.{frame_part, frame_there}
-use borrow.Author.Rules.{rules}
 use Rattle.fields.proofs.frames.frame_at.Goals as goal
 
 pub returns-then-state-ne13776 : goal.returns-then-state-ne13776

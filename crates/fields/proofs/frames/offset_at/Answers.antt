@@ -4,7 +4,6 @@ use mathlib.Core.Path.{◌∙◌}
 use Rattle.rules.specs.State.{act, frame}
 use Rattle.fields.proofs.Stands.{mine}
 use Rattle.fields.proofs.Own.{frame_number, offset_there}
-use borrow.Author.Rules.{rules}
 use Rattle.fields.proofs.frames.offset_at.Goals as goal
 
 pub returns : goal.returns

@@ -2,7 +2,6 @@
 use native.Mathlib.Omega.{arith}
 use Rattle.fields.proofs.Stands.{lent_length}
 use Rattle.fields.proofs.Own.{frame_write}
-use borrow.Author.Rules.{rules}
 use Rattle.fields.proofs.frames.put_frame.Goals as goal
 
 pub returns-then-state-ne13776 : goal.returns-then-state-ne13776

@@ -1,7 +1,6 @@
 -- Two bytes.
 use native.Mathlib.Omega.{arith}
 use Rattle.fields.proofs.Own.{offset_write}
-use borrow.Author.Rules.{rules}
 use Rattle.fields.proofs.frames.put_offset.Goals as goal
 
 pub returns : goal.returns

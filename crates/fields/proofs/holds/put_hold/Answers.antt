@@ -2,7 +2,6 @@
 use native.Mathlib.Omega.{arith}
 use Rattle.fields.proofs.Stands.{lent_length}
 use Rattle.fields.proofs.Own.{hold_write}
-use borrow.Author.Rules.{rules}
 use Rattle.fields.proofs.holds.put_hold.Goals as goal
 
 pub returns-then-state-ne13776 : goal.returns-then-state-ne13776

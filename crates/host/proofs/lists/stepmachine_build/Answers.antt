@@ -1,6 +1,5 @@
 -- The number tells whether the length is written.
 use mathlib.Core.Path.{sym, ◌∙◌}
-use borrow.Author.Rules.{rules}
 use borrow.Author.Tests.{eq-eqb, ne_eqb}
 use Rattle.host.specs.Lists.{size_after}
 use Rattle.host.proofs.lists.stepmachine_build.Goals as goal

@@ -1,6 +1,5 @@
 -- The number tells whether how many were found is written.
 use mathlib.Core.Path.{sym, ◌∙◌}
-use borrow.Author.Rules.{rules}
 use borrow.Author.Tests.{eq-eqb, ne_eqb}
 use Rattle.host.specs.Lists.{found_after}
 use Rattle.host.proofs.lists.stepmachine_commands.Goals as goal

@@ -1,7 +1,6 @@
 -- Its 208 bytes.
 use mathlib.Core.Path.{◌∙◌}
 use Rattle.machine.proofs.Kept.{entry_long, entry_encodes, entry_is}
-use borrow.Author.Rules.{rules}
 use Rattle.machine.proofs.after.activity_in.Goals as goal
 
 pub activity_at-requires : goal.activity_at-requires

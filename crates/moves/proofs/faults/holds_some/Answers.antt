@@ -1,12 +1,10 @@
 -- A search over the eight.
-use Rattle.std.proofs.Common.{◌-◌, ◌≤◌, false, sym, refl, ap, ◌∙◌, arith, rules}
+use Rattle.std.proofs.Common.{sym, refl, ap, ◌∙◌, arith}
 use Rattle.rules.specs.declared.state.Hold.{Hold}
-use Rattle.rules.specs.declared.state.Activity.{Activity}
 use Rattle.rules.specs.Search.{some_below}
 use Rattle.rules.specs.State.{act}
 use Rattle.places.proofs.Searches.{found, passed, none}
 use Rattle.rules.specs.Clocks.{holds, is_held, holds_some}
-use Rattle.fields.specs.Lent.{ReadsAct}
 use Rattle.moves.proofs.faults.holds_some.Goals as goal
 
 pub loop-k-init : goal.loop-k-init

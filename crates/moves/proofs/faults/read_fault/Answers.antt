@@ -1,5 +1,5 @@
 -- Each way is the definition's at the tests that led to it.
-use Rattle.std.proofs.Common.{cond, sym, ap, ◌∙◌, rules}
+use Rattle.std.proofs.Common.{cond, sym, ap, ◌∙◌}
 use Rattle.moves.proofs.Reading.{unbound_name, others, own_name}
 use Rattle.moves.proofs.faults.read_fault.Goals as goal
 

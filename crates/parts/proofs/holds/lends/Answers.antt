@@ -1,5 +1,5 @@
 -- Below 8 the bit of the mask; from there on a byte has none.
-use Rattle.std.proofs.Common.{◌≡◌, ℕ, ◌+◌, ◌/◌, ◌^◌, ◌<◌, ◌≤◌, false, arith, pow_mono, shr_lt, rules}
+use Rattle.std.proofs.Common.{◌≡◌, ℕ, ◌+◌, ◌/◌, ◌^◌, ◌<◌, ◌≤◌, false, arith, pow_mono, shr_lt}
 use Rattle.rules.specs.Faults.{bit}
 use Rattle.parts.proofs.holds.lends.Goals as goal
 

@@ -3,7 +3,6 @@ use mathlib.Core.Path.{ap}
 use lib.Dec.{eqb}
 use Prim.Native.Nat.{ℕ}
 use Rattle.program.specs.Command.{is_end}
-use borrow.Author.Rules.{rules}
 use Rattle.program.proofs.command.is_end.Goals as goal
 
 pub returns : goal.returns

@@ -1,7 +1,6 @@
 -- It is a test of the command byte.
 use borrow.Author.Tests.{le-leb, lt-leb}
 use Rattle.program.specs.Command.{uses_cell}
-use borrow.Author.Rules.{rules}
 use Rattle.program.proofs.command.uses_cell.Goals as goal
 
 pub returns-then-op-ge13 : goal.returns-then-op-ge13

@@ -1,15 +1,13 @@
 -- Each body is counted after those that it names; the distance to the last body falls.
-use mathlib.Core.Path.{◌≡◌, refl, sym, ap, subst, ◌∙◌}
+use mathlib.Core.Path.{◌≡◌, refl, ap, subst, ◌∙◌}
 use mathlib.Core.List.{[]}
-use mathlib.Core.Logic.{⊎_elim}
 use mathlib.Core.Bool.{true}
-use Prim.Native.Nat.{ℕ, ◌+◌, ◌*◌, ◌-◌, ◌<◌}
+use Prim.Native.Nat.{ℕ, ◌+◌, ◌*◌, ◌<◌}
 use native.Mathlib.Omega.{arith}
 use borrow.Author.Rules.{rules}
-use lib.ListN.{length, get_or, length-set}
+use lib.ListN.{length, get_or}
 use Rattle.program.specs.Command.{width_at, named, times, held}
 use Rattle.program.specs.Inner.Counting.{Counts, Counting, Filled}
-use Rattle.program.specs.declared.command.Command.{Command}
 use Rattle.program.proofs.RangeLaws.{tail_part}
 use Rattle.program.proofs.WalkLaws.{Walked, zeros_small, asked_few, asked_inside, asked_starts, asked_named, walked_start, walked_done, walked_small, walked_stride, walked_name, walked_own, added_named, added_alone, noted_set, noted_at, counts_small}
 use Rattle.program.proofs.count.+count.Goals as goal
@@ -66,8 +64,7 @@ count-requires t c =
     let walk : Walked c.args.table.now c.args.body c.loop-going.notes c.loop-going.sums c.loop-going.at true = subst (Walked c.args.table.now c.args.body c.loop-going.notes c.loop-going.sums c.loop-going.at) c.loop-going-test.true c.loop-going.invariant.1 in
     let named_here : (c.args.body < c.named-b.result) × (c.named-b.result < get_or c.args.table.now 0 0) = (let runs : 0 < times c.known-command.result = rw c.times-runs.ensures.0 at c.if-runs-gt0.true in
     rw c.named-b.ensures.0 (walked_name asked walk c.known-command.ensures runs)) in
-    let few-here : c.named-b.result < 16 = let h = named_here.1 in let p = asked_few asked in omega arith in
-    (
+    let few-here : c.named-b.result < 16 = let h = named_here.1 in let p = asked_few asked in omega arith in (
       (let h = named_here.0 in let f = few-here in omega arith),
       asked_named asked named_here.1 (tail_part c.args.table.now (get_or c.args.starts.now c.named-b.result 0)) c.loop-going.invariant.1.noted c.loop-going.invariant.1.long,
     )
@@ -102,8 +99,7 @@ loop-going-preserved-then-runs-gt0 t c =
     let walk : Walked c.args.table.now c.args.body c.loop-going.notes c.loop-going.sums c.loop-going.at true = subst (Walked c.args.table.now c.args.body c.loop-going.notes c.loop-going.sums c.loop-going.at) c.loop-going-test.true c.loop-going.invariant.1 in
     let size-here : c.stride-at.result ≡ width_at (get_or c.args.code.now c.loop-going.at 0) + 2 * held c.known-command.result = c.stride-at.ensures.0 ∙ ap (λ (op : ℕ). width_at op + 2 * held c.known-command.result) c.byte_at.ensures in
     let filled-here : Filled c.args.table.now c.named-b.result c.if-row-eq0.notes × (length c.if-row-eq0.notes ≡ 16) = (elim c.if-row-eq0.branch [ then-row-eq0 w ↦ (rw w.notes-is w.count.ensures, rw w.notes-is (search rules)) | else-row-eq0 w ↦ (rw w.notes-is (noted_at c.loop-going.invariant.1.noted w.if-row-eq0.false), rw w.notes-is c.loop-going.invariant.1.long) ]) in
-    let counted-here : Counts c.args.table.now (named c.known-command.result) (get_or c.if-row-eq0.notes c.named-b.result []) = subst (λ (i : ℕ). Counts c.args.table.now i (get_or c.if-row-eq0.notes c.named-b.result [])) c.named-b.ensures.0 filled-here.0.counts in
-    (
+    let counted-here : Counts c.args.table.now (named c.known-command.result) (get_or c.if-row-eq0.notes c.named-b.result []) = subst (λ (i : ℕ). Counts c.args.table.now i (get_or c.if-row-eq0.notes c.named-b.result [])) c.named-b.ensures.0 filled-here.0.counts in (
       c.loop-going.invariant.0,
       rw c.is_end-going.ensures
           (walked_own asked walk c.known-command.ensures (walked_stride asked walk c.known-command.ensures size-here).1 filled-here.1 filled-here.0.noted

@@ -1,17 +1,8 @@
 -- Each body is counted after those that it names; the distance to the last body falls.
-use mathlib.Core.Path.{◌≡◌, refl, sym, ap, subst, ◌∙◌}
-use mathlib.Core.List.{[]}
-use mathlib.Core.Logic.{⊎_elim}
-use mathlib.Core.Bool.{true}
-use Prim.Native.Nat.{ℕ, ◌+◌, ◌*◌, ◌-◌, ◌<◌}
-use native.Mathlib.Omega.{arith}
-use borrow.Author.Rules.{rules}
-use lib.ListN.{length, get_or, length-set}
-use Rattle.program.specs.Command.{width_at, named, times, held}
-use Rattle.program.specs.Inner.Counting.{Counts, Counting, Filled}
-use Rattle.program.specs.declared.command.Command.{Command}
-use Rattle.program.proofs.RangeLaws.{tail_part}
-use Rattle.program.proofs.WalkLaws.{Walked, zeros_small, asked_few, asked_inside, asked_starts, asked_named, walked_start, walked_done, walked_small, walked_stride, walked_name, walked_own, added_named, added_alone, noted_set, noted_at, counts_small}
+use mathlib.Core.Path.{◌≡◌}
+use Prim.Native.Nat.{◌-◌}
+use lib.ListN.{length}
+use Rattle.program.proofs.WalkLaws.{Walked}
 use Rattle.program.proofs.count.+count.Given as goal
 
 abbrev pub invariant-loop-going : goal.invariant-loop-going

@@ -1,11 +1,8 @@
 -- Each sum is added and saturated by itself.
-use mathlib.Core.Path.{◌≡◌, ap, ◌∙◌}
-use Prim.Native.Nat.{ℕ, ◌+◌, ◌*◌, ◌-◌, ◌≤◌, ◌<◌}
-use native.Mathlib.Omega.{arith}
-use borrow.Author.Rules.{rules}
-use lib.ListN.{length, get_or, length-set}
-use Rattle.program.specs.Inner.Counting.{cap, Small}
-use Rattle.program.proofs.TotalLaws.{product, Upto, upto_none, upto_more, upto_all}
+use mathlib.Core.Path.{◌≡◌}
+use Prim.Native.Nat.{◌-◌}
+use lib.ListN.{length}
+use Rattle.program.proofs.TotalLaws.{Upto}
 use Rattle.program.proofs.count.added.Given as goal
 
 abbrev pub invariant-loop-k : goal.invariant-loop-k

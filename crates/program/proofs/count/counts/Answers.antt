@@ -5,7 +5,6 @@ use lib.ListN.{get_or, drop, replicate}
 use Rattle.program.specs.Inner.Counting.{Counting}
 use Rattle.program.proofs.RangeLaws.{tail_part}
 use Rattle.program.proofs.WalkLaws.{asked_first, asked_inside, asked_starts}
-use borrow.Author.Rules.{rules}
 use Rattle.program.proofs.count.counts.Goals as goal
 
 pub bounds-starts-0 : goal.bounds-starts-0

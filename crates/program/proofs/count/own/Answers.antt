@@ -5,7 +5,6 @@ use borrow.Author.Tests.{eq-eqb, ne_eqb}
 use lib.ListN.{get_or}
 use Rattle.program.specs.Inner.Coding.{weight}
 use Rattle.program.proofs.RowLaws.{weighed, weight_is}
-use borrow.Author.Rules.{rules}
 use Rattle.program.proofs.count.own.Goals as goal
 
 pub returns-then-op-eq-NEXT : goal.returns-then-op-eq-NEXT

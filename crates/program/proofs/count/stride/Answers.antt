@@ -3,7 +3,6 @@ use mathlib.Core.Path.{ap₂}
 use Prim.Native.Nat.{ℕ, ◌+◌, ◌*◌}
 use native.Mathlib.Omega.{arith}
 use Rattle.program.proofs.RowLaws.{width_few}
-use borrow.Author.Rules.{rules}
 use Rattle.program.proofs.count.stride.Goals as goal
 
 pub overflow_add-result : goal.overflow_add-result

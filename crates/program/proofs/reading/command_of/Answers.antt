@@ -1,6 +1,5 @@
 -- Each arm is the command of its byte.
 use Rattle.program.specs.Command.{command_of}
-use Rattle.program.proofs.RowLaws.{none_left}
 use Rattle.program.proofs.reading.command_of.Goals as goal
 
 pub returns-in-0 : goal.returns-in-0

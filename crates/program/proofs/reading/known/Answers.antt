@@ -5,7 +5,6 @@ use mathlib.Core.Path.{sym, ap, ◌∙◌}
 use lib.ListN.{drop}
 use Rattle.program.specs.Command.{word}
 use Rattle.program.proofs.RangeLaws.{tail_part, bare_none, bare_unknown, bare_known}
-use borrow.Author.Rules.{rules}
 use Rattle.program.proofs.reading.known.Goals as goal
 
 pub returns-then-code-offset : goal.returns-then-code-offset

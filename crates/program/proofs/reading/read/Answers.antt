@@ -6,7 +6,6 @@ use lib.ListN.{length, get_or, take, drop}
 use Rattle.program.specs.Command.{row_at, width_at, word}
 use Rattle.program.specs.Reading.{all_inside}
 use Rattle.program.proofs.RangeLaws.{tail_part, read_empty, read_unknown, read_cut, read_room, read_outside, read_whole}
-use borrow.Author.Rules.{rules}
 use Rattle.program.proofs.reading.read.Goals as goal
 
 pub returns-then-code-eq0 : goal.returns-then-code-eq0

@@ -1,14 +1,13 @@
 -- The scan from the place reached is the whole scan of the body: the loop goes on as the definition does, and the marks with it.
-use mathlib.Core.Path.{◌≡◌, refl, sym, ap, ◌∙◌}
+use mathlib.Core.Path.{◌≡◌, sym, ap, ◌∙◌}
 use mathlib.Core.List.{List}
-use Prim.Native.Nat.{ℕ, ◌+◌, ◌-◌, ◌≤◌, ◌<◌}
+use Prim.Native.Nat.{ℕ, ◌+◌, ◌≤◌, ◌<◌}
 use native.Mathlib.Omega.{arith}
-use borrow.Author.Rules.{rules}
 use lib.ListN.{length, drop, set, length-drop}
 use lib.Seq.{drop-drop}
-use Rattle.program.specs.Reading.{read, readings}
+use Rattle.program.specs.Reading.{read}
 use Rattle.program.specs.Scan.{placing, left_after, body_after}
-use Rattle.program.specs.Inner.Scanned.{extent_of, Marking}
+use Rattle.program.specs.Inner.Scanned.{Marking}
 use Rattle.program.specs.declared.reading.Reading.TheVariants.{Whole}
 use Rattle.program.proofs.Basic.{apart}
 use Rattle.program.proofs.RangeLaws.{tail_part}

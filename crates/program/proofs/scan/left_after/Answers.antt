@@ -2,7 +2,6 @@
 use mathlib.Core.Path.{◌∙◌}
 use Rattle.program.specs.Scan.{left_after}
 use Rattle.program.proofs.ScanLaws.{left_more}
-use borrow.Author.Rules.{rules}
 use Rattle.program.proofs.scan.left_after.Goals as goal
 
 pub returns-then-left-eq0 : goal.returns-then-left-eq0

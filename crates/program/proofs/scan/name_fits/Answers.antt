@@ -1,7 +1,6 @@
 -- The tests are those of the definition.
 use borrow.Author.Tests.{lt-ltb, le-ltb}
 use Rattle.program.specs.Scan.{name_fits}
-use borrow.Author.Rules.{rules}
 use Rattle.program.proofs.scan.name_fits.Goals as goal
 
 pub returns-then-body-b : goal.returns-then-body-b

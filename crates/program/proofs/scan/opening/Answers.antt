@@ -2,7 +2,6 @@
 use borrow.Author.Tests.{lt-leb, le-leb}
 use Rattle.program.specs.Scan.{fits_length, fits_bodies}
 use Rattle.program.specs.Inner.Scanned.{opening}
-use borrow.Author.Rules.{rules}
 use Rattle.program.proofs.scan.opening.Goals as goal
 
 pub returns-then-table-lt2 : goal.returns-then-table-lt2

@@ -1,7 +1,6 @@
 -- The tests are those of the definition.
 use borrow.Author.Tests.{eq-eqb, ne_eqb, not-true, not-false}
 use Rattle.program.specs.Scan.{placing, atom_fits}
-use borrow.Author.Rules.{rules}
 use Rattle.program.proofs.scan.placing.Goals as goal
 
 pub returns-then-not-name_fits : goal.returns-then-not-name_fits

@@ -1,7 +1,6 @@
 -- The four tests are those of the definition.
 use borrow.Author.Tests.{lt-ltb, le-ltb}
 use Rattle.program.specs.Inner.Counting.{over_counts}
-use borrow.Author.Rules.{rules}
 use Rattle.program.proofs.table.over.Goals as goal
 
 pub returns-then-totals-gt63 : goal.returns-then-totals-gt63

@@ -9,7 +9,6 @@ use Rattle.program.specs.declared.scan.Scanned.{Scanned}
 use Rattle.program.proofs.TableLaws.{scanned_number, scanned_layout, table_unread, table_over, table_counted}
 use Rattle.program.proofs.WalkLaws.{counts_small}
 use Rattle.program.specs.Inner.Counting.{Small}
-use borrow.Author.Rules.{rules}
 use Rattle.program.proofs.table.read_places.Goals as goal
 
 pub returns-then-number-ne0 : goal.returns-then-number-ne0

@@ -1,9 +1,5 @@
 -- The invariant: the bytes are those of the state that the turns so far led to, and what they told stands in the buffers.
-use Prim.Native.Nat.{◌-◌}
-use native.Mathlib.Omega.{arith}
-use lib.ListN.{length}
-use Rattle.turns.proofs.Following.{Going, going_start, going_stored, going_past, going_end}
-use borrow.Author.Rules.{rules}
+use Rattle.turns.proofs.Following.{going_start, going_stored, going_past, going_end}
 use Rattle.turns.proofs.follow.follow.Goals as goal
 
 pub loop-k-init : goal.loop-k-init

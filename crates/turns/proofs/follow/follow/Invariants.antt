@@ -1,9 +1,7 @@
 -- The invariant: the bytes are those of the state that the turns so far led to, and what they told stands in the buffers.
 use Prim.Native.Nat.{◌-◌}
-use native.Mathlib.Omega.{arith}
 use lib.ListN.{length}
-use Rattle.turns.proofs.Following.{Going, going_start, going_stored, going_past, going_end}
-use borrow.Author.Rules.{rules}
+use Rattle.turns.proofs.Following.{Going}
 use Rattle.turns.proofs.follow.follow.Given as goal
 
 abbrev pub invariant-loop-k : goal.invariant-loop-k

@@ -1,6 +1,5 @@
 -- The number is 0.
 use Rattle.turns.proofs.Looking.{able}
-use borrow.Author.Rules.{rules}
 use Rattle.turns.proofs.look.can_step.Goals as goal
 
 pub returns : goal.returns

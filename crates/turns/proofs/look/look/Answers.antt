@@ -2,7 +2,6 @@
 use native.Mathlib.Omega.{arith}
 use mathlib.Core.Path.{sym, ◌∙◌}
 use Rattle.turns.proofs.Looking.{not_spawned, has_ended, some, waiting, moving}
-use borrow.Author.Rules.{rules}
 use Rattle.turns.proofs.look.look.Goals as goal
 
 pub returns-then-made-i : goal.returns-then-made-i

@@ -2,7 +2,6 @@
 use mathlib.Core.Path.{refl}
 use Rattle.waits.proofs.Waitings.{awaits_next}
 use Rattle.turns.proofs.Carrying.{kept, carried_simply}
-use borrow.Author.Rules.{rules}
 use Rattle.turns.proofs.meet.meet_next.Goals as goal
 
 pub returns-then-awaited-ne0 : goal.returns-then-awaited-ne0

@@ -1,9 +1,7 @@
 -- The set so far has a bit for each activity passed that can step.
-use Prim.Native.Nat.{◌-◌, ◌≤◌, ◌<◌}
+use Prim.Native.Nat.{◌<◌}
 use native.Mathlib.Omega.{arith}
-use mathlib.Core.Logic.{⊎_elim}
-use Rattle.turns.proofs.Readying.{Below, ready_none, ready_set_lem, ready_left, ready_all, ready_many}
-use borrow.Author.Rules.{rules}
+use Rattle.turns.proofs.Readying.{ready_none, ready_set_lem, ready_left, ready_all, ready_many}
 use Rattle.turns.proofs.ready.ready_set.Goals as goal
 use Rattle.turns.proofs.ready.ready_set.Goals.{then-can_step, else-can_step}
 
@@ -18,7 +16,7 @@ loop-i-preserved c =
     let low : c.loop-i.i < 64 = omega arith in (
       omega arith,
       elim c.if-can_step.branch [
-        then-can_step w ↦ ready_set_lem c.loop-i.invariant.1 low c.can_step.ensures w.set-is w.if-can_step.true
+        | then-can_step w ↦ ready_set_lem c.loop-i.invariant.1 low c.can_step.ensures w.set-is w.if-can_step.true
         | else-can_step w ↦ ready_left c.loop-i.invariant.1 low c.can_step.ensures w.set-is w.if-can_step.false
       ],
     )

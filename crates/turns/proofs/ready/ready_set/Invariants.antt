@@ -1,9 +1,6 @@
 -- The set so far has a bit for each activity passed that can step.
-use Prim.Native.Nat.{◌-◌, ◌≤◌, ◌<◌}
-use native.Mathlib.Omega.{arith}
-use mathlib.Core.Logic.{⊎_elim}
-use Rattle.turns.proofs.Readying.{Below, ready_none, ready_set_lem, ready_left, ready_all, ready_many}
-use borrow.Author.Rules.{rules}
+use Prim.Native.Nat.{◌-◌, ◌≤◌}
+use Rattle.turns.proofs.Readying.{Below}
 use Rattle.turns.proofs.ready.ready_set.Given as goal
 
 abbrev pub invariant-loop-i : goal.invariant-loop-i

@@ -1,5 +1,5 @@
 -- Number 17 twice, and the accumulator, the count and the name.
-use Rattle.std.proofs.Common.{sym, refl, ◌∙◌, rules}
+use Rattle.std.proofs.Common.{sym, refl, ◌∙◌}
 use Rattle.moves.proofs.Standings.{over, spent}
 use Rattle.values.proofs.Accs.{full, made}
 use Rattle.values.proofs.acc.acc.Goals as goal

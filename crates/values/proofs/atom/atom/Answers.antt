@@ -1,5 +1,5 @@
 -- Number 17, the frame at the top, the commands, and on.
-use Rattle.std.proofs.Common.{sym, refl, ◌∙◌, arith, rules}
+use Rattle.std.proofs.Common.{sym, refl, ◌∙◌, arith}
 use Rattle.moves.proofs.Standings.{few, some, over, spent}
 use Rattle.values.proofs.Atoms.{atom_done}
 use Rattle.values.proofs.atom.atom.Goals as goal

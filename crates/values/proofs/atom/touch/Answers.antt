@@ -1,6 +1,5 @@
 -- By the command byte.
 use Rattle.values.proofs.Atoms.{by_fetch, by_store, by_add}
-use Rattle.std.proofs.Common.{rules}
 use Rattle.values.proofs.atom.touch.Goals as goal
 
 pub returns-then-op-eq-FETCH : goal.returns-then-op-eq-FETCH

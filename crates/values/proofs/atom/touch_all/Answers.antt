@@ -1,5 +1,5 @@
 -- The slice from the body's first command.
-use Rattle.std.proofs.Common.{arith, rules}
+use Rattle.std.proofs.Common.{arith}
 use Rattle.places.proofs.Starts.{body_there, code_there}
 use Rattle.values.proofs.Atoms.{in_table}
 use Rattle.values.proofs.atom.touch_all.Goals as goal

@@ -1,6 +1,6 @@
 -- One command after the other.
-use Rattle.std.proofs.Common.{◌≡◌, ◌+◌, ◌-◌, length, refl, ◌∙◌, rules}
-use Rattle.values.proofs.Atoms.{TouchesTo, touch_none, touch_more, touch_end}
+use Rattle.std.proofs.Common.{refl, ◌∙◌}
+use Rattle.values.proofs.Atoms.{touch_none, touch_more, touch_end}
 use Rattle.values.proofs.atom.touch_each.Goals as goal
 
 pub loop-j-init : goal.loop-j-init

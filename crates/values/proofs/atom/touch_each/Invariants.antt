@@ -1,6 +1,6 @@
 -- One command after the other.
-use Rattle.std.proofs.Common.{◌≡◌, ◌+◌, ◌-◌, length, refl, ◌∙◌, rules}
-use Rattle.values.proofs.Atoms.{TouchesTo, touch_none, touch_more, touch_end}
+use Rattle.std.proofs.Common.{◌≡◌, ◌+◌, ◌-◌, length}
+use Rattle.values.proofs.Atoms.{TouchesTo}
 use Rattle.values.proofs.atom.touch_each.Given as goal
 
 abbrev pub invariant-loop-j : goal.invariant-loop-j

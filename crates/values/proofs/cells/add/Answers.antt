@@ -1,5 +1,5 @@
 -- The sum, and on.
-use Rattle.std.proofs.Common.{sym, ◌∙◌, rules}
+use Rattle.std.proofs.Common.{sym, ◌∙◌}
 use Rattle.moves.proofs.Standings.{over, spent}
 use Rattle.values.proofs.Touching.{added}
 use Rattle.values.proofs.cells.add.Goals as goal

@@ -1,6 +1,5 @@
 -- Both, then the sum.
 use Rattle.values.proofs.Touching.{adds}
-use Rattle.std.proofs.Common.{rules}
 use Rattle.values.proofs.cells.add_cell.Goals as goal
 
 pub returns : goal.returns

@@ -1,5 +1,5 @@
 -- The register, and on.
-use Rattle.std.proofs.Common.{sym, ◌∙◌, rules}
+use Rattle.std.proofs.Common.{sym, ◌∙◌}
 use Rattle.moves.proofs.Standings.{over, spent}
 use Rattle.values.proofs.Touching.{fetched}
 use Rattle.values.proofs.cells.fetch.Goals as goal

@@ -1,6 +1,5 @@
 -- The cell, then the register.
 use Rattle.values.proofs.Touching.{fetches}
-use Rattle.std.proofs.Common.{rules}
 use Rattle.values.proofs.cells.fetch_cell.Goals as goal
 
 pub returns : goal.returns

@@ -1,5 +1,5 @@
 -- The cell, and on.
-use Rattle.std.proofs.Common.{sym, ◌∙◌, rules}
+use Rattle.std.proofs.Common.{sym, ◌∙◌}
 use Rattle.moves.proofs.Standings.{over, spent}
 use Rattle.values.proofs.Touching.{stored}
 use Rattle.values.proofs.cells.store.Goals as goal

@@ -1,6 +1,5 @@
 -- The register, then the cell.
 use Rattle.values.proofs.Touching.{stores}
-use Rattle.std.proofs.Common.{rules}
 use Rattle.values.proofs.cells.store_cell.Goals as goal
 
 pub returns : goal.returns

@@ -1,5 +1,5 @@
 -- F5, number 17, and the offer.
-use Rattle.std.proofs.Common.{sym, ◌∙◌, rules}
+use Rattle.std.proofs.Common.{sym, ◌∙◌}
 use Rattle.moves.proofs.Standings.{over, spent}
 use Rattle.values.proofs.Offers.{unbound_fault, offered}
 use Rattle.values.proofs.offer.offer.Goals as goal

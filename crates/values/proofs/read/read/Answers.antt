@@ -1,5 +1,5 @@
 -- The fault, number 17, and the value.
-use Rattle.std.proofs.Common.{sym, refl, ◌∙◌, rules}
+use Rattle.std.proofs.Common.{sym, refl, ◌∙◌}
 use Rattle.rules.specs.Faults.{fault_for}
 use Rattle.moves.proofs.Standings.{fault_here, over, spent}
 use Rattle.values.proofs.Owns.{unread, bound_here, was_read}

@@ -1,11 +1,7 @@
 -- Over the activities, and over the names of each; in the inner loop x is one on already.
-use Prim.Native.Nat.{◌+◌, ◌-◌, ◌*◌, ◌≤◌}
-use native.Mathlib.Omega.{arith}
-use mathlib.Core.Path.{◌≡◌, refl}
-use Rattle.encoding.proofs.FieldLaws.{sized}
-use Rattle.fields.proofs.Stands.{lent_length}
-use Rattle.waits.proofs.Behinds.{NoneLate, none_late, none_more, BehindTo, behind_yet, behind_all, behind_ended, behind_none, behind_late}
-use borrow.Author.Rules.{rules}
+use Prim.Native.Nat.{◌-◌, ◌≤◌}
+use mathlib.Core.Path.{◌≡◌}
+use Rattle.waits.proofs.Behinds.{NoneLate, BehindTo}
 use Rattle.waits.proofs.behind.count_behind.Given as goal
 
 abbrev pub invariant-loop-k : goal.invariant-loop-k

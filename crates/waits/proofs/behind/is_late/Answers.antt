@@ -1,6 +1,5 @@
 -- By the registration, the clock and the place.
 use Rattle.waits.proofs.Behinds.{late_free, late_past, late_by}
-use borrow.Author.Rules.{rules}
 use Rattle.waits.proofs.behind.is_late.Goals as goal
 
 pub returns-then-registration-eq0 : goal.returns-then-registration-eq0

@@ -1,6 +1,5 @@
 -- By the byte of the standing.
 use Rattle.waits.proofs.Insides.{unended_there}
-use borrow.Author.Rules.{rules}
 use Rattle.waits.proofs.behind.is_unended.Goals as goal
 
 pub returns : goal.returns

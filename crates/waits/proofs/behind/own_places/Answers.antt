@@ -1,8 +1,6 @@
 -- Each turn enters one name.
-use Prim.Native.Nat.{◌-◌}
 use mathlib.Core.Path.{refl, sym, ◌∙◌}
-use Rattle.waits.proofs.Behinds.{OwnTo, own_none, own_all, own_free, own_high, own_store}
-use borrow.Author.Rules.{rules}
+use Rattle.waits.proofs.Behinds.{own_none, own_all, own_free, own_store}
 use Rattle.waits.proofs.behind.own_places.Goals as goal
 
 pub loop-n-init : goal.loop-n-init

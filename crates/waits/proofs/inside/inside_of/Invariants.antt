@@ -1,8 +1,6 @@
 -- The invariant: those below x are passed, those of them who are inside and unended counted, and a faulted one found.
 use Prim.Native.Nat.{◌-◌, ◌≤◌, ◌<◌}
-use native.Mathlib.Omega.{arith}
-use Rattle.waits.proofs.Insides.{InsideTo, too_many, nobody_above, nobody_inside, inside_yet, inside_end, not_lower, inside_out, inside_unended, inside_ended, inside_faulted}
-use borrow.Author.Rules.{rules}
+use Rattle.waits.proofs.Insides.{InsideTo}
 use Rattle.waits.proofs.inside.inside_of.Given as goal
 
 abbrev pub invariant-loop-x : goal.invariant-loop-x

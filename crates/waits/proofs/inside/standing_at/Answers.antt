@@ -1,7 +1,6 @@
 -- One byte.
 use native.Mathlib.Omega.{arith}
 use Rattle.waits.proofs.Insides.{standing_there}
-use borrow.Author.Rules.{rules}
 use Rattle.waits.proofs.inside.standing_at.Goals as goal
 
 pub returns : goal.returns

@@ -1,6 +1,5 @@
 -- By the command.
 use Rattle.waits.proofs.Waitings.{awaits_end, awaits_next, awaits_read, awaits_reset, awaits_other}
-use borrow.Author.Rules.{rules}
 use borrow.Enum.Refused.{opened}
 use Rattle.waits.proofs.waiting.awaited_at.Goals as goal
 

@@ -1,6 +1,5 @@
 -- The body at the top, and the one that runs it.
 use Rattle.waits.proofs.Waitings.{end_alone, end_elsewhere, end_inside}
-use borrow.Author.Rules.{rules}
 use Rattle.waits.proofs.waiting.end_inside.Goals as goal
 
 pub returns-then-depth-le1 : goal.returns-then-depth-le1

@@ -1,6 +1,5 @@
 -- The meeting guards the search.
 use Rattle.waits.proofs.Waitings.{next_elsewhere, next_behind}
-use borrow.Author.Rules.{rules}
 use Rattle.waits.proofs.waiting.next_awaits.Goals as goal
 
 pub returns-then-is_at_barrier : goal.returns-then-is_at_barrier

@@ -1,6 +1,5 @@
 -- The fault first.
-use Rattle.waits.proofs.Waitings.{own_faulty, own_inside}
-use borrow.Author.Rules.{rules}
+use Rattle.waits.proofs.Waitings.{own_inside}
 use Rattle.waits.proofs.waiting.own_awaits.Goals as goal
 
 pub returns-then-read_fault-eq0 : goal.returns-then-read_fault-eq0

@@ -1,5 +1,4 @@
 -- Each test decides as in the definition.
-use borrow.Author.Rules.{rules}
 use Rattle.wellformed.specs.Entries.{are_apart}
 use Rattle.wellformed.proofs.Loops.{holds_so, fails_so}
 use Rattle.wellformed.proofs.clocks.are_apart.Goals as goal

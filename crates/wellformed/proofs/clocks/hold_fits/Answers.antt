@@ -1,6 +1,5 @@
 -- Each test decides as in the definition.
-use borrow.Author.Rules.{rules}
-use borrow.Author.Tests.{le-leb, lt-leb}
+use borrow.Author.Tests.{le-leb}
 use Rattle.wellformed.specs.Entries.{hold_is_fit}
 use Rattle.wellformed.proofs.Loops.{so, not_so}
 use Rattle.wellformed.proofs.clocks.hold_fits.Goals as goal

@@ -1,5 +1,4 @@
 -- Its reserved bytes, its place, then what it stands on.
-use borrow.Author.Rules.{rules}
 use Prim.Native.Nat.{◌-◌}
 use native.Mathlib.Omega.{arith}
 use mathlib.Core.Bool.{true}

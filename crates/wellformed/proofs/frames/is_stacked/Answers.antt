@@ -1,5 +1,4 @@
 -- The command below runs the body, and bodies rise.
-use borrow.Author.Rules.{rules}
 use mathlib.Core.Bool.{Bool}
 use mathlib.Core.Path.{◌≡◌, ap, ◌∙◌}
 use Rattle.program.specs.declared.command.Command.{Command}

@@ -1,14 +1,9 @@
 -- Each frame in use is tested in turn, the bytes behind them at once.
-use borrow.Author.Rules.{rules}
-use Prim.Native.Nat.{◌+◌, ◌-◌, ◌*◌}
-use native.Mathlib.Omega.{arith}
-use mathlib.Core.Path.{◌≡◌, ap, ◌∙◌}
-use lib.ListN.{drop}
+use Prim.Native.Nat.{◌-◌}
 use Rattle.program.specs.Bodies.{program_of}
-use Rattle.program.proofs.RangeLaws.{tail_part}
-use Rattle.encoding.specs.Bytes.{all_zero, byte_at}
-use Rattle.wellformed.proofs.Loops.{Passed, none_yet, one_more, so, not_so, part_fails, parts_end}
-use Rattle.wellformed.proofs.WithinLaws.{frame_test, stack_joined, stack_deep, below_at}
+use Rattle.encoding.specs.Bytes.{byte_at}
+use Rattle.wellformed.proofs.Loops.{Passed}
+use Rattle.wellformed.proofs.WithinLaws.{frame_test}
 use Rattle.wellformed.proofs.frames.stack_passes.Given as goal
 
 abbrev pub invariant-loop-d : goal.invariant-loop-d

@@ -1,6 +1,5 @@
 -- The operator, the owner; the reserved bytes decide at last.
 use Rattle.wellformed.proofs.Fields.{operator_fails, owner_fails, accumulator_left}
-use borrow.Author.Rules.{rules}
 use Rattle.wellformed.proofs.lent.accumulator_passes.Goals as goal
 
 pub returns-then-bytes-gt-OPERATORS : goal.returns-then-bytes-gt-OPERATORS

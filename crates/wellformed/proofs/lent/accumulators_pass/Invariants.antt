@@ -1,10 +1,7 @@
 -- Each entry in use is tested in turn, the bytes behind them at once.
 use Prim.Native.Nat.{◌-◌}
-use native.Mathlib.Omega.{arith}
-use Rattle.encoding.proofs.PartLaws.{turn_sized}
 use Rattle.wellformed.specs.Passing.{accumulator_passes}
-use Rattle.wellformed.proofs.Fronts.{Front, front_none, front_on, front_fails, front_ends, accumulators_joined}
-use borrow.Author.Rules.{rules}
+use Rattle.wellformed.proofs.Fronts.{Front}
 use Rattle.wellformed.proofs.lent.accumulators_pass.Given as goal
 
 abbrev pub invariant-loop-i : goal.invariant-loop-i

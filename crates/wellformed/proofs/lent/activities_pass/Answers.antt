@@ -1,11 +1,6 @@
 -- Each entry in use is tested in turn, the bytes behind them at once.
-use Prim.Native.Nat.{◌-◌}
 use native.Mathlib.Omega.{arith}
-use Rattle.program.specs.Bodies.{program_of}
-use Rattle.encoding.proofs.PartLaws.{turn_sized}
-use Rattle.wellformed.specs.Passing.{activity_passes}
-use Rattle.wellformed.proofs.Fronts.{Front, front_none, front_on, front_fails, front_ends, activities_joined}
-use borrow.Author.Rules.{rules}
+use Rattle.wellformed.proofs.Fronts.{front_none, front_on, front_fails, front_ends, activities_joined}
 use Rattle.wellformed.proofs.lent.activities_pass.Goals as goal
 
 pub loop-i-init : goal.loop-i-init

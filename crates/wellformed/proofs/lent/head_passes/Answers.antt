@@ -3,7 +3,6 @@ use native.Mathlib.Omega.{arith}
 use mathlib.Core.Path.{◌≡◌}
 use Rattle.encoding.specs.Bytes.{number_of, part}
 use Rattle.wellformed.proofs.Fields.{head_fails, head_left}
-use borrow.Author.Rules.{rules}
 use Rattle.wellformed.proofs.lent.head_passes.Goals as goal
 
 pub returns-then-state-ne1 : goal.returns-then-state-ne1

@@ -8,7 +8,6 @@ use Rattle.wellformed.specs.Passing.{head_passes}
 use Rattle.wellformed.proofs.Loops.{holds_so, fails_so}
 use Rattle.wellformed.proofs.Fields.{head_facts}
 use Rattle.wellformed.proofs.PassLaws.{other_length, head_unfit, accumulators_unfit, activities_left}
-use borrow.Author.Rules.{rules}
 use Rattle.wellformed.proofs.lent.state_passes.Goals as goal
 
 pub returns-then-state-ne-LENGTH : goal.returns-then-state-ne-LENGTH

@@ -1,5 +1,4 @@
 -- By the marks, where the body and the byte exist.
-use borrow.Author.Rules.{rules}
 use native.Mathlib.Omega.{arith}
 use mathlib.Core.Path.{refl}
 use Rattle.wellformed.proofs.Marking.{table_some, table_short, no_body, start_there, start_small, past_end, by_mark}

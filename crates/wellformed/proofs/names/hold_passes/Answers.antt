@@ -1,5 +1,4 @@
 -- A free name; else its bytes encode one, and then as in the definition.
-use borrow.Author.Rules.{rules}
 use mathlib.Core.Bool.{true}
 use mathlib.Core.Path.{◌≡◌, ap, ◌∙◌}
 use Rattle.rules.specs.State.{hold}
@@ -7,7 +6,7 @@ use Rattle.rules.specs.WellFormed.{hold_fits}
 use Rattle.encoding.specs.Decode.{activity_at, hold_encodes}
 use Rattle.entries.specs.Entries.{hold_bytes}
 use Rattle.wellformed.specs.Entries.{hold_is_fit}
-use Rattle.wellformed.proofs.Loops.{so, holds_so, fails_so}
+use Rattle.wellformed.proofs.Loops.{so, holds_so}
 use Rattle.wellformed.proofs.WithinLaws.{name_free}
 use Rattle.wellformed.proofs.names.hold_passes.Goals as goal
 

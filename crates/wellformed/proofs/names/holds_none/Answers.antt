@@ -1,5 +1,5 @@
 -- Each clock name is tested in turn.
-use Prim.Native.Nat.{ℕ, ◌-◌, ◌<◌}
+use Prim.Native.Nat.{ℕ, ◌<◌}
 use native.Mathlib.Omega.{arith}
 use mathlib.Core.Bool.{Bool, not}
 use mathlib.Core.List.{List}
@@ -9,7 +9,7 @@ use Rattle.rules.specs.Clocks.{is_held, holds, holds_some}
 use Rattle.encoding.specs.Bytes.{part}
 use Rattle.encoding.specs.Decode.{activity_at, hold_encodes}
 use Rattle.encoding.proofs.PartLaws.{parts_pass_at}
-use Rattle.wellformed.proofs.Loops.{Passed, none_yet, one_more, at_end, one_fails, so, not_so}
+use Rattle.wellformed.proofs.Loops.{none_yet, one_more, at_end, one_fails, so, not_so}
 use Rattle.wellformed.proofs.Laws.{not_some}
 use Rattle.wellformed.proofs.names.holds_none.Goals as goal
 

@@ -1,9 +1,8 @@
 -- Each clock name is tested in turn.
-use Prim.Native.Nat.{◌-◌}
 use native.Mathlib.Omega.{arith}
 use mathlib.Core.Path.{◌∙◌}
-use Rattle.wellformed.proofs.Loops.{Passed, none_yet, one_more, at_end, one_fails, so, not_so}
-use Rattle.wellformed.proofs.WithinLaws.{hold_test, holds_tested}
+use Rattle.wellformed.proofs.Loops.{none_yet, one_more, at_end, one_fails, so, not_so}
+use Rattle.wellformed.proofs.WithinLaws.{holds_tested}
 use Rattle.wellformed.proofs.names.holds_pass.Goals as goal
 
 pub loop-k-init : goal.loop-k-init

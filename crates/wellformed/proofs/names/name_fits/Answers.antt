@@ -1,5 +1,5 @@
 -- A name that is free is apart from every other; where it is not, each name before it is tested in turn.
-use Prim.Native.Nat.{ℕ, ◌-◌, ◌<◌}
+use Prim.Native.Nat.{ℕ, ◌<◌}
 use native.Mathlib.Omega.{arith}
 use mathlib.Core.Bool.{Bool}
 use mathlib.Core.List.{List}
@@ -11,7 +11,7 @@ use Rattle.encoding.specs.Bytes.{part}
 use Rattle.encoding.specs.Decode.{activity_at, hold_encodes}
 use Rattle.encoding.proofs.PartLaws.{parts_pass_at}
 use Rattle.wellformed.specs.Entries.{are_apart}
-use Rattle.wellformed.proofs.Loops.{Passed, none_yet, one_more, at_end, one_fails, all_pass, so, not_so, fails_so}
+use Rattle.wellformed.proofs.Loops.{none_yet, one_more, one_fails, all_pass, so, not_so, fails_so}
 use Rattle.wellformed.proofs.Laws.{apart_free}
 use Rattle.wellformed.proofs.names.name_fits.Goals as goal
 

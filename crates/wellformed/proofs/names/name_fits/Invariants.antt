@@ -1,23 +1,17 @@
 -- A name that is free is apart from every other; where it is not, each name before it is tested in turn.
-use Prim.Native.Nat.{ℕ, ◌-◌, ◌<◌}
-use native.Mathlib.Omega.{arith}
+use Prim.Native.Nat.{ℕ, ◌-◌}
 use mathlib.Core.Bool.{Bool}
 use mathlib.Core.List.{List}
-use mathlib.Core.Path.{◌≡◌, sym, ap, ◌∙◌}
-use Rattle.rules.specs.declared.state.Hold.{Hold}
 use Rattle.rules.specs.State.{hold}
-use Rattle.rules.specs.Clocks.{is_held}
-use Rattle.encoding.specs.Bytes.{part}
-use Rattle.encoding.specs.Decode.{activity_at, hold_encodes}
-use Rattle.encoding.proofs.PartLaws.{parts_pass_at}
+use Rattle.encoding.specs.Decode.{activity_at}
 use Rattle.wellformed.specs.Entries.{are_apart}
-use Rattle.wellformed.proofs.Loops.{Passed, none_yet, one_more, at_end, one_fails, all_pass, so, not_so, fails_so}
-use Rattle.wellformed.proofs.Laws.{apart_free}
+use Rattle.wellformed.proofs.Loops.{Passed}
 use Rattle.wellformed.proofs.names.name_fits.Given as goal
 
 -- What is tested of a name before name k.
 abbrev test : List ℕ → ℕ → ℕ → Bool
 test b k j = are_apart (hold (activity_at b) j) (hold (activity_at b) k)
+
 abbrev pub invariant-loop-j : goal.invariant-loop-j
 invariant-loop-j l = Passed l.k (test l.a l.k) l.j
 

@@ -1,5 +1,5 @@
 -- Each name is tested in turn.
-use Prim.Native.Nat.{ℕ, ◌-◌}
+use Prim.Native.Nat.{ℕ}
 use native.Mathlib.Omega.{arith}
 use mathlib.Core.Bool.{Bool}
 use mathlib.Core.List.{List}
@@ -8,7 +8,7 @@ use Rattle.rules.specs.State.{hold}
 use Rattle.rules.specs.WellFormed.{names_fit}
 use Rattle.encoding.specs.Decode.{activity_at}
 use Rattle.wellformed.specs.Entries.{are_apart}
-use Rattle.wellformed.proofs.Loops.{Passed, none_yet, one_more, at_end, one_fails, so, not_so}
+use Rattle.wellformed.proofs.Loops.{none_yet, one_more, at_end, one_fails, so, not_so}
 use Rattle.wellformed.proofs.names.names_fit.Goals as goal
 
 -- What is tested of a name.

@@ -1,5 +1,4 @@
 -- By the command's byte.
-use borrow.Author.Rules.{rules}
 use mathlib.Core.Path.{◌∙◌}
 use Rattle.wellformed.proofs.Laws.{by_finish_lem, by_repeat_lem, by_choose_lem, by_no_other}
 use Rattle.wellformed.proofs.runs.run_by.Goals as goal

@@ -1,10 +1,6 @@
 -- The greatest name so far decides of those passed.
-use Prim.Native.Nat.{◌≤◌, ◌-◌}
 use native.Mathlib.Omega.{arith}
-use mathlib.Core.Path.{◌≡◌}
-use lib.Dec.{leb}
-use Rattle.rules.specs.Search.{all_below}
-use Rattle.wellformed.proofs.WithinLaws.{name_test, greatest_none, greatest_more, greatest_same, greatest_all}
+use Rattle.wellformed.proofs.WithinLaws.{greatest_none, greatest_more, greatest_same}
 use Rattle.wellformed.proofs.within.bindings_fit.Goals as goal
 
 pub loop-n-init : goal.loop-n-init

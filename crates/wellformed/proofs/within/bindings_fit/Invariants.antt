@@ -1,10 +1,9 @@
 -- The greatest name so far decides of those passed.
 use Prim.Native.Nat.{◌≤◌, ◌-◌}
-use native.Mathlib.Omega.{arith}
 use mathlib.Core.Path.{◌≡◌}
 use lib.Dec.{leb}
 use Rattle.rules.specs.Search.{all_below}
-use Rattle.wellformed.proofs.WithinLaws.{name_test, greatest_none, greatest_more, greatest_same, greatest_all}
+use Rattle.wellformed.proofs.WithinLaws.{name_test}
 use Rattle.wellformed.proofs.within.bindings_fit.Given as goal
 
 abbrev pub invariant-loop-n : goal.invariant-loop-n

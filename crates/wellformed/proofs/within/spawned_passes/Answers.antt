@@ -1,5 +1,4 @@
 -- Each test decides, in the order of the code.
-use borrow.Author.Rules.{rules}
 use mathlib.Core.Bool.{true}
 use mathlib.Core.Path.{◌≡◌, ◌∙◌}
 use Rattle.program.specs.Bodies.{program_of}

@@ -1,5 +1,4 @@
 -- Main, or a child.
-use borrow.Author.Rules.{rules}
 use Rattle.encoding.specs.Decode.{activity_at}
 use Rattle.wellformed.proofs.Laws.{main_spawner, child_spawner}
 use Rattle.wellformed.proofs.within.spawner_fits.Goals as goal
