@@ -31,7 +31,7 @@ module _ {t starts : List ℕ} (h : Known t starts) where
   starts_are b = ap (λ (l : List ℕ). get_or l b 0) h.laid
 
   -- A frame's body and offset, as the code has them, and the number of bodies.
-  module _ (f : Frame) {n b o : ℕ} (is-count : n ≡ get_or t 0 0) (is_IsBody : b ≡ f.body) (is-offset : o ≡ f.offset) where
+  module _ (f : Frame) {n b o : ℕ} (is_count : n ≡ get_or t 0 0) (is_body : b ≡ f.body) (is_offset : o ≡ f.offset) where
     -- A body that the table lacks has no place.
     pub no_body : n ≤ b → false ≡ is_placed (program_of t) f
     unfolding is_placed
@@ -39,7 +39,7 @@ module _ {t starts : List ℕ} (h : Known t starts) where
 
     module _ (l : b < n) where
       counted : b < get_or t 0 0
-      counted = rw is-count at l
+      counted = rw is_count at l
 
       -- A body of the table has a start, inside the table.
       pub start_there : b < length starts
@@ -51,7 +51,7 @@ module _ {t starts : List ℕ} (h : Known t starts) where
       -- A frame of it is at a place where its offset is one.
       by_offset : is_place (get_or (program_of t) b []) o ≡ is_placed (program_of t) f
       unfolding is_placed
-      by_offset = let e = length_program t in rw (is_IsBody, is-offset, lt-ltb f.body (length (program_of t)) (omega arith))
+      by_offset = let e = length_program t in rw (is_body, is_offset, lt-ltb f.body (length (program_of t)) (omega arith))
 
       -- No place lies past the table's end.
       pub past_end : length t ≤ get_or starts b 0 + o → false ≡ is_placed (program_of t) f
