@@ -1,9 +1,9 @@
 -- A loop that changes the holds of an activity, one after the other.
 use Prim.Native.Nat.{ℕ, zero, suc, ◌+◌, ◌≤◌, ◌<◌}
-use native.Mathlib.Omega.{arith}
 use native.Mathlib.Numerals.{add-one}
 use native.Mathlib.Nat.{not-suc-le-zero, le_of_suc-le-suc}
-use mathlib.Core.Path.{◌≡◌, refl, sym, ap, ◌∙◌}
+use mathlib.Core.Path.{◌≡◌, refl, sym, ap, ◌∙◌, subst}
+use mathlib.Core.Bool.{Bool, true, false}
 use mathlib.Core.List.{List, [], ◌∷◌, map}
 use lib.ListN.{length, get_or, set}
 use lib.Seq.{set-get_or}
@@ -11,9 +11,10 @@ use Rattle.rules.specs.declared.state.Hold.{Hold}
 use Rattle.rules.specs.declared.state.Activity.{Activity}
 use Rattle.rules.specs.declared.state.State.{State}
 use Rattle.rules.specs.State.{act, no_hold, hold}
+use Rattle.rules.specs.Clocks.{is_held}
 use Rattle.rules.specs.Effects.{with_holds}
-use Rattle.fields.specs.Lent.{FineActivity, Lent, ReadsAct, WritesAct, with_act, with_hold}
-use Rattle.barriers.specs.Mapped.{Maps}
+use Rattle.fields.specs.Lent.{Lent, ReadsAct, WritesAct, with_act, with_hold}
+use Rattle.barriers.specs.Mapped.{Tells, Maps}
 use Rattle.moves.proofs.Withs.{act_with, with_with, with_same}
 
 -- The first k elements mapped.
@@ -50,57 +51,55 @@ abbrev pub mapped : (Hold → Hold) → ℕ → Activity → Activity
 mapped f k a = with_holds a a.status (map_to f k a.holds)
 
 -- The first k holds are changed.
-pub record MapsTo (P : Activity → Type 0) (f : Hold → Hold) (k : ℕ) (b c : List ℕ) (i : ℕ) : Type 0 where
-  pub within : k ≤ 8
-  pub maps : (s : State) → Lent b s → i < 64 → P (act s i) → Lent c (with_act s i (mapped f k (act s i)))
+pub record MapsTo (Change : Hold → Hold → Type 0) (k : ℕ) (b c : List ℕ) (i : ℕ) : Type 0 where
+  pub maps : (f : Hold → Hold) (s : State) → Lent b s → i < 64 → ((n : ℕ) → n < 8 → Tells Change f (hold (act s i) n)) → Lent c (with_act s i (mapped f k (act s i)))
 
--- none yet
-pub map_none : {P : Activity → Type 0} {f : Hold → Hold} {b : List ℕ} {i : ℕ} → MapsTo P f 0 b b i
-unfolding map_to
-map_none {i = i} = record { within = omega arith; maps = λ s l j p. rw (with_same s i) l }
+module _ {Change : Hold → Hold → Type 0} {b : List ℕ} {i : ℕ} where
+  -- none yet
+  pub map_none : MapsTo Change 0 b b i
+  unfolding map_to
+  map_none = record { maps = λ f s l j p. rw (with_same s i) l }
 
-module _ {P : Activity → Type 0} {f : Hold → Hold} {b b₁ : List ℕ} {i : ℕ} where
   -- all
-  pub map_done : {k : ℕ} → MapsTo P f k b b₁ i → 8 ≤ k → Maps P f b b₁ i
-  map_done {k} m h =
+  pub map_done : {b₁ : List ℕ} {k : ℕ} → MapsTo Change k b b₁ i → 8 ≤ k → Maps Change b b₁ i
+  map_done {k = k} m h =
       record {
-        maps = λ s l j p. rw (map_to_all f k (act s i).holds (rw (l.fine.each i j).holds8 h)) at (m.maps s l j p);
+        maps = λ f s l j p. rw (map_to_all f k (act s i).holds (rw (l.fine.each i j).holds8 h)) at (m.maps f s l j p);
       }
 
-  module _ {k : ℕ} (m : MapsTo P f k b b₁ i) (h : k < 8) where
+  module _ {b₁ : List ℕ} {k : ℕ} (m : MapsTo Change k b b₁ i) (h : k < 8) {g : Hold} (r : ReadsAct (λ (a : Activity). hold a k) b₁ i g) where
     -- what is read at k is what stood there
-    read_at : {g : Hold} → ReadsAct (λ (a : Activity). hold a k) b₁ i g → (s : State) → Lent b s → i < 64 → P (act s i) → g ≡ hold (act s i) k
-    read_at r s l j p =
-        let t = m.maps s l j p in
+    read_at : (f : Hold → Hold) (s : State) → Lent b s → i < 64 → ((n : ℕ) → n < 8 → Tells Change f (hold (act s i) n)) → g ≡ hold (act s i) k
+    read_at f s l j p =
+        let t = m.maps f s l j p in
         r.reads _ t j ∙ ap (λ (a : Activity). hold a k) (act_with (mapped f k (act s i)) l j) ∙ map_to_at f k (act s i).holds no_hold
 
     -- one more is written
-    pub map_more : {b₂ : List ℕ} {g x : Hold} → ReadsAct (λ (a : Activity). hold a k) b₁ i g → ((a : Activity) → FineActivity a → P a → g ≡ hold a k → x ≡ f g)
-        → WritesAct (λ (a : Activity). with_hold a k x) b₁ b₂ i → MapsTo P f (k + 1) b b₂ i
-    map_more {b₂} {g} {x} r e w =
+    pub map_more : {b₂ : List ℕ} {q : Bool} {x : Hold} → q ≡ is_held g.registration → q ≡ true → Change g x → WritesAct (λ (a : Activity). with_hold a k x) b₁ b₂ i → MapsTo Change (k + 1) b b₂ i
+    map_more {b₂} {x = x} e t changed w =
         record {
-          within = omega arith;
           maps =
-              λ s l j p.
+              λ f s l j p.
               let a = act s i in
               let y = mapped f k a in
-              let q : g ≡ hold a k = read_at r s l j p in
-              let t = rw (act_with y l j, with_with) at (w.writes _ (m.maps s l j p) j) in
-              rw (map_to_more f k a.holds no_hold x (rw (l.fine.each i j).holds8 h) (e a (l.fine.each i j) p q ∙ ap f q)) at t;
+              let q : g ≡ hold a k = read_at f s l j p in
+              let z : x ≡ f (hold a k) = (p k h).held (rw (← q) (sym e ∙ t)) x (subst (λ (o : Hold). Change o x) q changed) in
+              let n = rw (act_with y l j, with_with) at (w.writes _ (m.maps f s l j p) j) in
+              rw (map_to_more f k a.holds no_hold x (rw (l.fine.each i j).holds8 h) z) at n;
         }
 
     -- one more stays as it is
-    pub map_skip : {g : Hold} → ReadsAct (λ (a : Activity). hold a k) b₁ i g → g ≡ f g → MapsTo P f (k + 1) b b₁ i
-    map_skip {g} r e =
+    pub map_skip : {q : Bool} → q ≡ is_held g.registration → q ≡ false → MapsTo Change (k + 1) b b₁ i
+    map_skip e t =
         record {
-          within = omega arith;
           maps =
-              λ s l j p.
+              λ f s l j p.
               let a = act s i in
-              let q : g ≡ hold a k = read_at r s l j p in
+              let q : g ≡ hold a k = read_at f s l j p in
+              let same : hold a k ≡ f (hold a k) = (p k h).free (rw (← q) (sym e ∙ t)) in
               let z : map_to f k a.holds ≡ map_to f (k + 1) a.holds
               = sym (ap (λ (x : Hold). set (map_to f k a.holds) k x) (sym (map_to_at f k a.holds no_hold)) ∙ set-get_or (map_to f k a.holds) k no_hold)
-              ∙ map_to_more f k a.holds no_hold (hold a k) (rw (l.fine.each i j).holds8 h) (sym q ∙ e ∙ ap f q)
+              ∙ map_to_more f k a.holds no_hold (hold a k) (rw (l.fine.each i j).holds8 h) same
               in
-              rw z at (m.maps s l j p);
+              rw z at (m.maps f s l j p);
         }

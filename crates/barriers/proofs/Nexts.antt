@@ -1,10 +1,10 @@
 -- NEXT.
-use Prim.Native.Nat.{ℕ, ◌+◌, ◌≤◌, ◌<◌}
+use Prim.Native.Nat.{ℕ, ◌≤◌, ◌<◌}
 use native.Mathlib.Omega.{arith}
 use native.Mathlib.Nat.{add-zero}
 use mathlib.Core.Path.{◌≡◌, refl, sym, ap, ◌∙◌}
 use mathlib.Core.List.{List, map}
-use mathlib.Core.Bool.{Bool, true, false, cond, ◌&&◌}
+use mathlib.Core.Bool.{Bool, true, false, ◌&&◌}
 use lib.Dec.{leb, eqb}
 use borrow.Author.Tests.{eqb-false}
 use Rattle.program.specs.Command.{is_end}
@@ -13,6 +13,7 @@ use Rattle.program.specs.declared.command.Command.TheVariants.{Next}
 use Rattle.program.proofs.ShapeRows.{span_is}
 use Rattle.rules.specs.declared.state.Registration.{Registration}
 use Rattle.rules.specs.declared.state.Registration.TheVariants.{Free, Live, Quiesced}
+use Rattle.rules.specs.declared.state.Status.{Status}
 use Rattle.rules.specs.declared.state.Status.TheVariants.{Running, AtBarrier}
 use Rattle.rules.specs.declared.state.Hold.{Hold}
 use Rattle.rules.specs.declared.state.Activity.{Activity}
@@ -25,47 +26,46 @@ use Rattle.rules.specs.Steps.{base, effect, exceeds}
 use Rattle.rules.proofs.Tests.{true_false}
 use Rattle.rules.proofs.Search.{some_below_none}
 use Rattle.moves.specs.Exceeding.{some_last, overfull, overtakes, exceeds_at}
-use Rattle.fields.specs.Lent.{FineActivity, Lent, WritesAct, with_act, with_status}
+use Rattle.fields.specs.Lent.{FineActivity, Lent, ReadsAct, WritesAct, with_act, with_status}
 use Rattle.moves.specs.Moves.{Standing, Turned, Counts, GoesOn}
-use Rattle.barriers.specs.Mapped.{Maps, Any, Passable}
+use Rattle.barriers.specs.Mapped.{Tells, Maps}
 use Rattle.moves.proofs.Withs.{act_with, with_with, steps_with}
 use Rattle.moves.proofs.Standings.{few, fault_here, asks, steps_room, went, done_alone}
 
 -- ONE HOLD
 
-pub quiesce_free : (h : Hold) {r : Bool} → r ≡ is_held h.registration → r ≡ false → h ≡ quiesce h
-quiesce_free h e n = rw (free h.registration (sym e ∙ n))
+-- arrival quiesces
+quiesce_tells : {Change : Hold → Hold → Type 0} → ((h r : Hold) → Change h r → r ≡ quiesce h) → (h : Hold) → Tells Change quiesce h
+quiesce_tells f h = record { held = λ q r t. f h r t; free = λ n. rw (free h.registration n) }
   where
     free : (x : Registration) → is_held x ≡ false → quiesced x ≡ x
     free Free q = refl
     free Live q = absurd (true_false true refl q)
     free Quiesced q = absurd (true_false true refl q)
 
-pub pass_free : (h : Hold) {r : Bool} → r ≡ is_held h.registration → r ≡ false → h ≡ pass h
-pass_free h e n = let q = sym e ∙ n in rw (q, free h.registration q, add-zero)
+-- passing passes, where no phase is the last
+pass_tells : {Change : Hold → Hold → Type 0} → ((h r : Hold) → Change h r → (pass h).phase ≤ 65535 → r ≡ pass h) → (a : Activity) → FineActivity a → some_last a.holds ≡ false → (k : ℕ) → k < 8
+    → Tells Change pass (hold a k)
+unfolding some_last
+pass_tells f a w p k j = record { held = λ q r t. f (hold a k) r t (fits q); free = λ n. rw (n, free (hold a k).registration n, add-zero) }
   where
     free : (x : Registration) → is_held x ≡ false → revived x ≡ x
     free Free q = refl
     free Live q = absurd (true_false true refl q)
     free Quiesced q = absurd (true_false true refl q)
 
--- where no phase is the last, the next one fits
-pub pass_fits : {k : ℕ} {g x : Hold} → k < 8 → ((pass g).phase ≤ 65535 → x ≡ pass g) → (a : Activity) → FineActivity a → Passable a → g ≡ hold a k → x ≡ pass g
-unfolding some_last
-pass_fits {k} {g} h f a w p e = f (go (is_held g.registration) refl)
-  where
-    low : g.phase < 65536
-    low = rw e (w.phases k)
-
-    go : (b : Bool) → is_held g.registration ≡ b → g.phase + cond b 1 0 ≤ 65535
-    go true q =
-        let n : is_held g.registration && eqb g.phase 65535 ≡ false = rw e (some_below_none 8 _ p k h) in
-        let m = eqb-false g.phase 65535 (rw q at n) in
-        let z = low in
-        omega arith
-    go false q = let z = low in omega arith
+    fits : is_held (hold a k).registration ≡ true → (pass (hold a k)).phase ≤ 65535
+    fits q =
+        let low = w.phases k in
+        let n : is_held (hold a k).registration && eqb (hold a k).phase 65535 ≡ false = some_below_none 8 _ p k j in
+        let m = eqb-false (hold a k).phase 65535 (rw q at n) in
+        rw q (omega arith)
 
 -- THE COMMAND
+
+-- whether the activity is at a meeting, as it was tested
+pub meeting : {b : List ℕ} {s : State} {i : ℕ} {st : Status} {q v : Bool} → Lent b s → i < 64 → ReadsAct (λ (a : Activity). a.status) b i st → q ≡ is_at_barrier st → q ≡ v → is_at_barrier (act s i).status ≡ v
+meeting {s = s} l h f e n = sym (ap is_at_barrier (f.reads s l h)) ∙ sym e ∙ n
 
 module _ {b : List ℕ} {p : Program} {s : State} {i work : ℕ} (l : Lent b s) (w : Standing p s i work Next) (left : false ≡ leb work s.steps) where
   -- number 17 where a step is left
@@ -78,24 +78,25 @@ module _ {b : List ℕ} {p : Program} {s : State} {i work : ℕ} (l : Lent b s) 
   last_phase e f = exceeding (rw e f)
 
   -- a status and holds anew
-  renewed : {b₁ b₂ : List ℕ} {P : Activity → Type 0} {f : Hold → Hold} {st : _} → P (act s i) → Maps P f b b₁ i → WritesAct (λ (a : Activity). with_status a st) b₁ b₂ i
+  renewed : {b₁ b₂ : List ℕ} {Change : Hold → Hold → Type 0} (f : Hold → Hold) {st : _} → ((k : ℕ) → k < 8 → Tells Change f (hold (act s i) k)) → Maps Change b b₁ i → WritesAct (λ (a : Activity). with_status a st) b₁ b₂ i
       → Lent b₂ (with_act s i (with_holds (act s i) st (map f (act s i).holds)))
-  renewed {f = f} {st = st} q m t =
+  renewed f {st = st} q m t =
       let y = with_holds (act s i) (act s i).status (map f (act s i).holds) in
-      rw (act_with y l (few w), with_with) at (t.writes _ (m.maps s l (few w) q) (few w))
+      rw (act_with y l (few w), with_with) at (t.writes _ (m.maps f s l (few w) q) (few w))
 
-  pub arrived : {b₁ b₂ b₃ : List ℕ} {r : ℕ} → is_at_barrier (act s i).status ≡ false → Maps Any quiesce b b₁ i → WritesAct (λ (a : Activity). with_status a AtBarrier) b₁ b₂ i
+  pub arrived : {b₁ b₂ b₃ : List ℕ} {Change : Hold → Hold → Type 0} {r : ℕ} → ((h x : Hold) → Change h x → x ≡ quiesce h) → is_at_barrier (act s i).status ≡ false → Maps Change b b₁ i → WritesAct (λ (a : Activity). with_status a AtBarrier) b₁ b₂ i
       → Counts b₂ b₃ r → Turned p s i b₃ r
   unfolding fault_for effect_of next_of overtakes with_act
-  arrived {b₃ = b₃} e m t k =
+  arrived {b₃ = b₃} f e m t k =
       let x = with_holds (act s i) AtBarrier (map quiesce (act s i).holds) in
-      done_alone w (fault_here w refl) (exceeding (rw e)) x (rw e) (k.counts _ (renewed (l.fine.each i (few w)).holds8 m t) (steps_room w left)) k.number
+      done_alone w (fault_here w refl) (exceeding (rw e)) x (rw e) (k.counts _ (renewed quiesce (λ n h. quiesce_tells f (hold (act s i) n)) m t) (steps_room w left)) k.number
 
-  pub gone : {b₁ b₂ b₃ : List ℕ} {r : ℕ} → is_at_barrier (act s i).status ≡ true → false ≡ some_last (act s i).holds → Maps Passable pass b b₁ i
+  pub gone : {b₁ b₂ b₃ : List ℕ} {Change : Hold → Hold → Type 0} {r : ℕ} → ((h x : Hold) → Change h x → (pass h).phase ≤ 65535 → x ≡ pass h) → is_at_barrier (act s i).status ≡ true
+      → false ≡ some_last (act s i).holds → Maps Change b b₁ i
       → WritesAct (λ (a : Activity). with_status a Running) b₁ b₂ i → GoesOn b₂ b₃ i 1 r → Turned p s i b₃ r
   unfolding fault_for effect_of next_of overtakes past is_end
-  gone {b₃ = b₃} e n m t g =
+  gone {b₃ = b₃} f e n m t g =
       let x = with_holds (act s i) Running (map pass (act s i).holds) in
       let z : act (with_act s i x) i ≡ x = act_with x l (few w) in
-      let y = went w refl (span_is Next) left (renewed (sym n) m t) (ap (λ (a : Activity). a.frames) z) (ap (λ (a : Activity). a.depth) z) (steps_with s i x) g in
+      let y = went w refl (span_is Next) left (renewed pass (pass_tells f (act s i) (l.fine.each i (few w)) (sym n)) m t) (ap (λ (a : Activity). a.frames) z) (ap (λ (a : Activity). a.depth) z) (steps_with s i x) g in
       done_alone w (fault_here w refl) (exceeding (rw (e, ← n))) (past p x) (rw e) (rw (z, with_with) at y) g.number

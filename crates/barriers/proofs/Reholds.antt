@@ -48,12 +48,11 @@ module _ {b : List ℕ} {p : Program} {s : State} {i work k : ℕ} {h : Hold} {q
   drop_fault w under e n = fault_here w refl ∙ rw (sym (holds_here l (few w) under e) ∙ n)
 
   pub resumed : {b₁ b₂ : List ℕ} {x : Hold} {r : ℕ} (w : Standing p s i work (Resume k)) → ReadsAct (λ (a : Activity). hold a k) b i h → q ≡ is_held h.registration → q ≡ true → false ≡ leb work s.steps
-      → x ≡ quiesce h → WritesAct (λ (a : Activity). with_hold a k x) b b₁ i → GoesOn b₁ b₂ i 2 r → Turned p s i b₂ r
+      → x ≡ quiesce (hold (act s i) k) → WritesAct (λ (a : Activity). with_hold a k x) b b₁ i → GoesOn b₁ b₂ i 2 r → Turned p s i b₂ r
   unfolding fault_for effect_of overfull past is_end
   resumed w under e n left z f g =
-      let y = under.reads s l (few w) in
       let clear : fault p s i ≡ 0 = fault_here w refl ∙ rw (sym (holds_here l (few w) under e) ∙ n) in
-      done_alone w clear (plain w left refl (λ o. omega arith)) _ refl (rw (z, y) at (rehold l w refl (span_is (Resume k)) left f g)) (g.number ∙ sym (calm w))
+      done_alone w clear (plain w left refl (λ o. omega arith)) _ refl (rw z at (rehold l w refl (span_is (Resume k)) left f g)) (g.number ∙ sym (calm w))
 
   pub dropped : {b₁ b₂ : List ℕ} {x : Hold} {r : ℕ} (w : Standing p s i work (Drop k)) → ReadsAct (λ (a : Activity). hold a k) b i h → q ≡ is_held h.registration → q ≡ true → false ≡ leb work s.steps
       → x ≡ no_hold → WritesAct (λ (a : Activity). with_hold a k x) b b₁ i → GoesOn b₁ b₂ i 2 r → Turned p s i b₂ r

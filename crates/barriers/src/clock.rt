@@ -1,29 +1,27 @@
 // CLOCK.
 ghost use Rattle.program.specs.declared.command.Command.TheVariants.{Clock};
 ghost use Rattle.std.specs.Prelude.{◌<◌};
-ghost use Rattle.moves.specs.Moves.{Turns};
+ghost use Rattle.moves.specs.Moves.{Turns, taken_number};
 
 use fields::counts::{clocks_of, put_clocks};
 use fields::holds::{hold_at, put_hold};
-use moves::{fail, go_on, is_spent};
+use moves::{Taken, fail, go_on, unspent};
 use parts::checks::is_held;
+use program::refusal::Refusal;
 use rules::state::{Fault, Hold, Registration};
 
 // CLOCK: the name holds a new clock, in phase 0 and live.
-pub fn clock(work: u64, state: &mut [u8], i: usize, c: usize) -> u8
-    ensures { c < 8 → Turns (Clock c) state.old state.new work i result }
+pub fn clock(work: u64, state: &mut [u8], i: usize, c: usize) -> Taken
+    ensures { c < 8 → Turns (Clock c) state.old state.new work i (taken_number result) }
 {
     let h = hold_at(state, i, c);
-    let registration = h.registration;
-    if is_held(registration) {
+    if is_held(h.registration) {
         return fail(work, state, i, Fault::F4);
     }
-    if is_spent(state, work) {
-        return 17;
-    }
+    unspent(state, work)?;
     let made = clocks_of(state);
     if 16 <= made {
-        return 17;
+        return Err(Refusal::Spent);
     }
     let new = Hold {
         phase: 0,

@@ -1,19 +1,24 @@
 -- END.
+use Rattle.std.proofs.Common.{Option, Result, Ok, Err, IsErr, IsErrAnd}
+use Rattle.std.specs.Bool.{⊤}
 use Prim.Native.Nat.{ℕ, suc, ◌+◌, ◌-◌, ◌*◌, ◌^◌, ◌≤◌, ◌<◌}
 use native.Mathlib.Omega.{arith}
 use native.Mathlib.Nat.{add_assoc}
 use mathlib.Core.Path.{◌≡◌, refl, sym, ap, ◌∙◌, subst}
 use mathlib.Core.List.{List}
-use mathlib.Core.Bool.{true, false, cond}
+use mathlib.Core.Bool.{Bool, true, false, cond}
 use lib.Seq.{get_or-set_other}
 use lib.Dec.{leb, eqb}
 use borrow.Author.Tests.{le-leb, lt-leb, lt-ltb, le-ltb, ne_eqb}
 use Rattle.program.specs.Command.{is_end, width, held}
-use Rattle.program.specs.Bodies.{Program, program_of}
+use Rattle.program.specs.Bodies.{program_of}
 use Rattle.program.specs.Scan.{scan}
+use Rattle.program.specs.declared.refusal.Refusal.{Refusal}
 use Rattle.program.specs.declared.command.Command.{Command}
 use Rattle.program.specs.declared.command.Command.TheVariants.{End, Finish, Repeat, Choose}
 use Rattle.program.proofs.ShapeRows.{span_is}
+use Rattle.rules.specs.declared.state.Fault.{Fault}
+use Rattle.rules.specs.declared.state.Fault.TheVariants.{F8}
 use Rattle.rules.specs.declared.state.Status.TheVariants.{Ended}
 use Rattle.rules.specs.declared.state.Frame.{Frame}
 use Rattle.rules.specs.declared.state.Activity.{Activity}
@@ -28,11 +33,11 @@ use Rattle.rules.proofs.WellFormedStack.{Ran, by_finish, by_repeat, by_choose, r
 use Rattle.rules.proofs.WellFormedFacts.{facts}
 use Rattle.moves.specs.Exceeding.{overfull}
 use Rattle.places.proofs.Places.{next_is, next_small}
-use Rattle.fields.specs.Lent.{Lent, ReadsAct, WritesAct, with_act, with_steps, with_frame, with_depth, onward}
-use Rattle.moves.specs.Moves.{Standing, Turned, Counts, GoesOn}
-use Rattle.bodies.specs.Pops.{lower, Pops, rerun, Reruns}
+use Rattle.fields.specs.Lent.{Lent, Reads, ReadsAct, WritesAct, with_act, with_steps, with_frame, with_depth, onward}
+use Rattle.moves.specs.Moves.{Standing, Turned, Counts, GoesOn, Fails, taken_number, unspent}
+use Rattle.bodies.specs.Pops.{lower, Pops, rerun, Reruns, Ends}
 use Rattle.moves.proofs.Withs.{act_with, with_with, steps_with, then}
-use Rattle.moves.proofs.Standings.{spawned, few, fault_at, plain, calm, steps_room, shallow, done_alone}
+use Rattle.moves.proofs.Standings.{left, turns_down, spawned, few, fault_at, plain, calm, steps_room, shallow, done_alone}
 
 pub pop_done : {b b₁ b₂ b₃ : List ℕ} {i d size r : ℕ} {f : Frame} → f ≡ no_frame → (d - 1 < 16 → WritesAct (λ (a : Activity). with_frame a (d - 1) f) b b₁ i)
     → WritesAct (λ (a : Activity). with_depth a (d - 1)) b₁ b₂ i → GoesOn b₂ b₃ i size r → Pops b b₃ i d size r
@@ -59,10 +64,15 @@ size_of {f = f} (by_repeat n b e p q r u) = rw (e, ne_eqb f.runs 0 (λ z. omega 
 size_of (by_choose b e p q r) = rw (e, q) (span_is (Choose b))
 
 -- A fault is passed on.
-pub passed_on_lem : {p : Program} {s : State} {i work : ℕ} → Standing p s i work End → spoilt p s i (act s i) End ≡ true → fault p s i ≡ 8
-passed_on_lem w e = fault_at w ∙ rw e
+pub passed_on : {faulted : Bool} {b b₁ : List ℕ} {work i r : ℕ} → Fails F8 b b₁ work i r → faulted ≡ true → Ends faulted b b₁ work i r
+passed_on g e = record { turns = λ t k s l w q. g.fails _ s _ l w (fault_at w ∙ rw (sym q ∙ e)) }
 
-module _ (t : List ℕ) {b : List ℕ} {s : State} {i work d : ℕ} (k : scan t ≡ 0) (l : Lent b s) (w : Standing (program_of t) s i work End) (left : false ≡ leb work s.steps)
+-- No step is left.
+pub none_left : {faulted : Bool} {b : List ℕ} {work i : ℕ} {a : Result ⊤ Refusal} {e : Refusal} → Reads (unspent work) b a → a ≡ Err e → (x : Result (Option Fault) Refusal)
+    → IsErr x × IsErrAnd x (λ y. y ≡ e) → Ends faulted b b work i (taken_number x)
+none_left asked e x g = record { turns = λ t k s l w q. (turns_down asked e x g).turns _ s l w }
+
+module _ (t : List ℕ) {b : List ℕ} {s : State} {i work d : ℕ} (k : scan t ≡ 0) (l : Lent b s) (w : Standing (program_of t) s i work End) (room : false ≡ leb work s.steps)
     (deep : ReadsAct (λ (a : Activity). a.depth) b i d) (none : spoilt (program_of t) s i (act s i) End ≡ false) where
   depth : d ≡ (act s i).depth
   depth = deep.reads s l (few w)
@@ -79,15 +89,15 @@ module _ (t : List ℕ) {b : List ℕ} {s : State} {i work d : ℕ} (k : scan t 
   after : {b₁ : List ℕ} {r : ℕ} (x : Activity) → end_of (program_of t) (act s i) ≡ x → Lent b₁ (with_steps (with_act s i x) (s.steps + 1)) → r ≡ 0 → x.status ≡ (act s i).status
       → Turned (program_of t) s i b₁ r
   unfolding effect_of overfull
-  after x e m n q = done_alone w clear (plain w left refl (λ o. omega arith)) x (ap alone e) m (n ∙ sym (rw q (calm w)))
+  after x e m n q = done_alone w clear (plain w room refl (λ o. omega arith)) x (ap alone e) m (n ∙ sym (rw q (calm w)))
 
-  pub ended : {b₁ b₂ : List ℕ} {r : ℕ} → d ≤ 1 → WritesAct (λ (a : Activity). stopped a Ended) b b₁ i → Counts b₁ b₂ r → Turned (program_of t) s i b₂ r
+  ended : {b₁ b₂ : List ℕ} {r : ℕ} → d ≤ 1 → WritesAct (λ (a : Activity). stopped a Ended) b b₁ i → Counts b₁ b₂ r → Turned (program_of t) s i b₂ r
   unfolding effect_of overfull end_of with_act
   ended h f g =
       let x = stopped (act s i) Ended in
       let e = depth in
       let q : end_of (program_of t) (act s i) ≡ x = rw (le-leb (act s i).depth 1 (omega arith)) in
-      done_alone w clear (plain w left refl (λ o. omega arith)) x (ap alone q) (g.counts _ (f.writes s l (few w)) (steps_room w left)) g.number
+      done_alone w clear (plain w room refl (λ o. omega arith)) x (ap alone q) (g.counts _ (f.writes s l (few w)) (steps_room w room)) g.number
 
   module _ (h : 1 < d) {f : Frame} (read : d - 1 < 16 → ReadsAct (λ (a : Activity). frame a (d - 1)) b i f) where
     low : d - 1 < 16
@@ -96,12 +106,12 @@ module _ (t : List ℕ) {b : List ℕ} {s : State} {i work d : ℕ} (k : scan t 
     upper : f ≡ top (act s i)
     upper = (read low).reads s l (few w) ∙ rw depth
 
-    pub reran : {b₁ : List ℕ} {r : ℕ} → 1 < f.runs → Reruns f b b₁ i (d - 1) r → Turned (program_of t) s i b₁ r
+    reran : {b₁ : List ℕ} {r : ℕ} → 1 < f.runs → Reruns f b b₁ i (d - 1) r → Turned (program_of t) s i b₁ r
     unfolding end_of again
     reran m g =
         let e = depth in
         let q : end_of (program_of t) (act s i) ≡ again (act s i) = rw (lt-leb (act s i).depth 1 (omega arith), lt-ltb 1 (top (act s i)).runs (rw (← upper) m)) in
-        after (again (act s i)) q (rw (depth, upper) at (g.reruns s l (few w) low (steps_room w left))) g.number refl
+        after (again (act s i)) q (rw (depth, upper) at (g.reruns s l (few w) low (steps_room w room))) g.number refl
 
     -- what stands below
     abbrev under : Frame
@@ -120,7 +130,7 @@ module _ (t : List ℕ) {b : List ℕ} {s : State} {i work d : ℕ} (k : scan t 
         rw upper
         (subst (λ (n : ℕ). Ran s.activities (here (program_of t) under).command (frame (act s i) n)) z (stack.stacked ((act s i).depth - 1 - 1) (omega arith)).by)
 
-    pub popped_out : {b₁ : List ℕ} {size r : ℕ} → f.runs ≤ 1 → cond (eqb f.runs 0) 2 3 ≡ size → Pops b b₁ i d size r → Turned (program_of t) s i b₁ r
+    popped_out : {b₁ : List ℕ} {size r : ℕ} → f.runs ≤ 1 → cond (eqb f.runs 0) 2 3 ≡ size → Pops b b₁ i d size r → Turned (program_of t) s i b₁ r
     unfolding end_of popped past with_act
     popped_out {b₁} {size} {r} once z o =
         let goes : is_end (here (program_of t) under).command ≡ false = ran_going runs_it in
@@ -134,6 +144,22 @@ module _ (t : List ℕ) {b : List ℕ} {s : State} {i work d : ℕ} (k : scan t 
         let e = depth in
         rw (lt-leb (act s i).depth 1 (omega arith), le-ltb 1 (top (act s i)).runs (rw (← upper) once)) in
         let v : (top (lower (act s i))).offset + size ≡ next_offset (program_of t) (top (lower (act s i))) = rw top_is (sym n) in
-        let m = o.pops s l (few w) (steps_room w left) depth h (rw depth (shallow w)) fits in
+        let m = o.pops s l (few w) (steps_room w room) depth h (rw depth (shallow w)) fits in
         after (popped (program_of t) (act s i)) q
         (subst (λ (j : ℕ). Lent b₁ (with_steps (with_act s i (with_top (lower (act s i)) (onward (top (lower (act s i))) j))) (s.steps + 1))) v m) o.number refl
+
+-- One is, and no fault is passed on.
+module _ {faulted : Bool} {b b₁ : List ℕ} {i work d : ℕ} {a : Result ⊤ Refusal} {u : ⊤} (asked : Reads (unspent work) b a) (one : a ≡ Ok u) (deep : ReadsAct (λ (a : Activity). a.depth) b i d)
+    (none : faulted ≡ false) where
+  pub ends_all : {b₂ : List ℕ} {r : ℕ} → d ≤ 1 → WritesAct (λ (a : Activity). stopped a Ended) b b₁ i → Counts b₁ b₂ r → Ends faulted b b₂ work i r
+  ends_all h f g = record { turns = λ t k s l w q. ended t k l w (left work l asked one) deep (sym q ∙ none) h f g }
+
+  module _ (h : 1 < d) {f : Frame} (read : d - 1 < 16 → ReadsAct (λ (a : Activity). frame a (d - 1)) b i f) where
+    pub ends_run : {r : ℕ} → 1 < f.runs → Reruns f b b₁ i (d - 1) r → Ends faulted b b₁ work i r
+    ends_run m g = record { turns = λ t k s l w q. reran t k l w (left work l asked one) deep (sym q ∙ none) h read m g }
+
+    pub ends_body : {r : ℕ} → f.runs ≡ 0 → Pops b b₁ i d 2 r → Ends faulted b b₁ work i r
+    ends_body m g = record { turns = λ t k s l w q. popped_out t k l w (left work l asked one) deep (sym q ∙ none) h read (omega arith) (rw m) g }
+
+    pub ends_last : {r : ℕ} → f.runs ≡ 1 → Pops b b₁ i d 3 r → Ends faulted b b₁ work i r
+    ends_last m g = record { turns = λ t k s l w q. popped_out t k l w (left work l asked one) deep (sym q ∙ none) h read (omega arith) (rw m) g }

@@ -3,22 +3,20 @@ use Prim.Native.Nat.{ℕ, ◌+◌, ◌<◌, ◌≤◌}
 use native.Mathlib.Omega.{arith}
 use mathlib.Core.Path.{◌≡◌, refl, sym, ap, ◌∙◌}
 use mathlib.Core.List.{List}
-use mathlib.Core.Bool.{Bool, true, false, cond, ◌&&◌}
+use mathlib.Core.Bool.{true, false}
 use lib.Seq.{set_comm}
-use lib.Dec.{ltb, leb}
+use lib.Dec.{leb}
 use borrow.Author.Tests.{le-leb, lt-leb}
 use Rattle.program.specs.Command.{is_end}
 use Rattle.program.specs.Bodies.{Program, program_of}
 use Rattle.program.specs.declared.command.Command.TheVariants.{Async}
 use Rattle.program.proofs.ShapeRows.{span_is}
-use Rattle.rules.specs.declared.state.Fault.{Fault}
 use Rattle.rules.specs.declared.state.Status.TheVariants.{Running}
 use Rattle.rules.specs.declared.state.Frame.{Frame}
 use Rattle.rules.specs.declared.state.Activity.{Activity}
 use Rattle.rules.specs.declared.state.State.{State}
-use Rattle.rules.specs.State.{fault_number, fault_of, act}
-use Rattle.rules.specs.Tree.{in_own_finish}
-use Rattle.rules.specs.Faults.{lends_unheld, lends_quiesced, async_fault, fault_for}
+use Rattle.rules.specs.State.{act}
+use Rattle.rules.specs.Faults.{async_fault, fault_for}
 use Rattle.rules.specs.Effects.{stopped, with_register, child, spawning, past, effect_of, with_stores, applied}
 use Rattle.rules.specs.Steps.{base, fault, effect, exceeds}
 use Rattle.rules.proofs.Turn.{turn}
@@ -34,25 +32,11 @@ use Rattle.moves.proofs.Standings.{spawned, few, fault_here, asks, plain, calm, 
 
 -- THE FAULT
 
-number_of : (x y z : Bool) → let n : ℕ = cond x 3 (cond y 1 (cond z 2 0)) in (n ≡ 0 → ⊥) → fault_number (fault_of n) ≡ n
-number_of true y z n = refl
-number_of false true z n = refl
-number_of false false true n = refl
-number_of false false false n = absurd (n refl)
-
-module _ {t starts b₀ : List ℕ} {s : State} {i work b m f : ℕ} (k : Known t starts) (l : Lent b₀ s) (w : Standing (program_of t) s i work (Async b m))
-    (read : ReadsIn (λ (p : Program) (a : Activity). async_fault p a m) t starts b₀ i f) where
-  pub met : fault (program_of t) s i ≡ f
-  unfolding fault_for
-  met = fault_here w refl ∙ sym (read.reads k s l (few w) (stack_of (record { known = k; formed = w.formed }) (spawned w) (turn (program_of t) s i w.goes).unended))
-
-  pub met_number : {x : Fault} → (f ≡ 0 → ⊥) → x ≡ fault_of f → fault (program_of t) s i ≡ fault_number x
-  unfolding fault_for async_fault
-  met_number n e =
-      let a = act s i in
-      let q = fault_here w refl in
-      let z : f ≡ async_fault (program_of t) a m = sym met ∙ q in
-      met ∙ z ∙ sym (number_of (ltb 0 m && in_own_finish (program_of t) a) (lends_unheld a m) (lends_quiesced a m) (λ o. n (z ∙ o))) ∙ sym (ap fault_number (e ∙ ap fault_of z))
+-- It is that of an accepted table.
+pub met : {t starts b₀ : List ℕ} {s : State} {i work b m f : ℕ} → Known t starts → Lent b₀ s → Standing (program_of t) s i work (Async b m)
+    → ReadsIn (λ (p : Program) (a : Activity). async_fault p a m) t b₀ i f → fault (program_of t) s i ≡ f
+unfolding fault_for
+met {t} {s = s} {i} k l w read = fault_here w refl ∙ sym (read.reads s l (few w) (stack_of (record { known = k; formed = w.formed }) (spawned w) (turn (program_of t) s i w.goes).unended))
 
 -- THE CHILD
 

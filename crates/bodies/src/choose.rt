@@ -1,18 +1,16 @@
 // CHOOSE.
 ghost use Rattle.program.specs.declared.command.Command.TheVariants.{Choose};
-ghost use Rattle.moves.specs.Moves.{Turns};
+ghost use Rattle.moves.specs.Moves.{Turns, taken_number};
 
 use super::push::push;
 use fields::activities::register_at;
-use moves::{go_on, is_spent};
+use moves::{Taken, go_on, unspent};
 
 // CHOOSE: the body begins where the hand is not 0; else nothing begins.
-pub fn choose(work: u64, state: &mut [u8], i: usize, b: u8) -> u8
-    ensures { Turns (Choose b) state.old state.new work i result }
+pub fn choose(work: u64, state: &mut [u8], i: usize, b: u8) -> Taken
+    ensures { Turns (Choose b) state.old state.new work i (taken_number result) }
 {
-    if is_spent(state, work) {
-        return 17;
-    }
+    unspent(state, work)?;
     if register_at(state, i) == 0 {
         return go_on(state, i, 2);
     }

@@ -1,18 +1,16 @@
 // FINISH.
 ghost use Rattle.program.specs.declared.command.Command.TheVariants.{Finish};
-ghost use Rattle.moves.specs.Moves.{Turns};
+ghost use Rattle.moves.specs.Moves.{Turns, taken_number};
 
 use super::push::push;
 use fields::counts::activities_of;
-use moves::is_spent;
+use moves::{Taken, unspent};
 
 // FINISH: the body begins, and notes the number that the next activity gets.
-pub fn finish(work: u64, state: &mut [u8], i: usize, b: u8) -> u8
-    ensures { Turns (Finish b) state.old state.new work i result }
+pub fn finish(work: u64, state: &mut [u8], i: usize, b: u8) -> Taken
+    ensures { Turns (Finish b) state.old state.new work i (taken_number result) }
 {
-    if is_spent(state, work) {
-        return 17;
-    }
+    unspent(state, work)?;
     let first = activities_of(state);
     push(state, i, b, 0, first)
 }

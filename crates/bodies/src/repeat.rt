@@ -1,17 +1,15 @@
 // REPEAT.
 ghost use Rattle.program.specs.declared.command.Command.TheVariants.{Repeat};
-ghost use Rattle.moves.specs.Moves.{Turns};
+ghost use Rattle.moves.specs.Moves.{Turns, taken_number};
 
 use super::push::push;
-use moves::{go_on, is_spent};
+use moves::{Taken, go_on, unspent};
 
 // REPEAT: the body begins with all its runs; of 0 runs nothing begins.
-pub fn repeat(work: u64, state: &mut [u8], i: usize, n: u8, b: u8) -> u8
-    ensures { Turns (Repeat n b) state.old state.new work i result }
+pub fn repeat(work: u64, state: &mut [u8], i: usize, n: u8, b: u8) -> Taken
+    ensures { Turns (Repeat n b) state.old state.new work i (taken_number result) }
 {
-    if is_spent(state, work) {
-        return 17;
-    }
+    unspent(state, work)?;
     if n == 0 {
         return go_on(state, i, 3);
     }

@@ -2,45 +2,33 @@
 use Prim.Native.Nat.{ℕ, ◌≤◌, ◌<◌}
 use native.Mathlib.Omega.{arith}
 use native.Mathlib.Decide.{dec_le}
-use mathlib.Core.Bool.{true}
+use mathlib.Core.Bool.{Bool, true, false, cond}
 use mathlib.Core.List.{List, ◌∷◌, ◌++◌, map}
 use mathlib.Core.Path.{◌≡◌, sym, ap, ◌∙◌}
 use lib.ListN.{length, take, drop, length-take, length-map}
 use lib.Seq.{take-append_seam, take_at}
-use lib.Dec.{leb}
+use lib.Dec.{leb, ltb, eqb}
 use borrow.Author.Tests.{le-leb, ne_eqb, lt-ltb, le-ltb}
 use Rattle.program.specs.Reading.{commands_of}
 use Rattle.program.specs.Scan.{fits_length}
+use Rattle.std.specs.Prelude.{Result, Ok, Err, IfOk}
+use Rattle.program.specs.Refusal.{refusal_number, answered}
 use Rattle.program.specs.Table.{work_limit, number_of}
+use Rattle.program.specs.declared.refusal.Refusal.{Refusal}
+use Rattle.program.specs.declared.refusal.Refusal.TheVariants.{Size, Room}
 use Rattle.program.proofs.Basic.{Bytes}
+use Rattle.program.proofs.Refusals.{refusal_some, answered_refusal}
+use Rattle.program.proofs.NumberLaws.{number_small}
 use Rattle.program.proofs.TableLaws.{too_long, many_bodies}
 use Rattle.program.proofs.ShapeListed.{passes}
 use Rattle.program.proofs.ShapeLaws.{numbered}
 use Rattle.builder.specs.Build.{command_in, entry_of, ends_in, bytes_of, list_bytes, built_number, built_length, built_bytes, listed_number, listed_count, listed_entries}
-use Rattle.builder.specs.Filled.{capped, Written, Filled}
+use Rattle.builder.specs.Filled.{capped, Written}
 use Rattle.builder.proofs.Entries.{Five, ends_some}
 use Rattle.builder.proofs.ReadsBack.{reads_back}
 use Rattle.builder.proofs.BuildsBack.{builds_back}
 
 -- THE BYTES THAT WERE MADE
-
-module _ {entries : List (List ℕ)} {out : List ℕ} {n : ℕ} (f : Filled entries out n) where
-  -- More than 2,048 bytes would be made.
-  pub unmade : n ≡ 0 → 1 ≡ number_of work_limit (list_bytes entries)
-  unfolding list_bytes
-  unmade e = by (dec_le (length (list_bytes entries)) 2048)
-    where
-      by : Dec (length (list_bytes entries) ≤ 2048) → 1 ≡ number_of work_limit (list_bytes entries)
-      by (yes h) = absurd (let l = (f.fits h).long in omega arith)
-      by (no h) = sym (too_long work_limit (list_bytes entries) (omega arith))
-
-  -- They are all there.
-  pub made : (n ≡ 0 → ⊥) → Written entries out n
-  made some = by (dec_le (length (list_bytes entries)) 2048)
-    where
-      by : Dec (length (list_bytes entries) ≤ 2048) → Written entries out n
-      by (yes h) = f.fits h
-      by (no h) = absurd (some (f.over (omega arith)))
 
 -- Byte 0 is answered alike where it is counted up to 17.
 capped-number : (n : ℕ) (s : List ℕ) → number_of work_limit (capped n ∷ s) ≡ number_of work_limit (n ∷ s)
@@ -71,13 +59,22 @@ module _ {entries : List (List ℕ)} {out : List ℕ} {n : ℕ} (w : Written ent
       let c : capped (ends_in entries) ≡ ends_in entries = omega arith in
       w.bytes ∙ ap (λ (x : ℕ). x ∷ bytes_of entries) c
 
+-- 1 to 12, then 18.
+numbers_small : (n : ℕ) (short : Bool) → n ≤ 12 → cond (eqb n 0) (cond short 18 0) n ≤ 18
+numbers_small n short h = by (eqb n 0) short
+  where
+    by : (a b : Bool) → cond a (cond b 18 0) n ≤ 18
+    by true true = omega arith
+    by true false = omega arith
+    by false b = omega arith
+
 -- BUILD
 
 -- What is promised of an answer and of the buffer after it.
-abbrev pub Builds : List (List ℕ) → List ℕ → ℕ → ℕ → List ℕ → Type 0
-Builds entries buffer number size after =
-    (number ≡ built_number entries (length buffer))
-    × ((size ≡ built_length entries (length buffer)) × ((after ≡ built_bytes entries buffer) × (number ≡ 0 → commands_of (take size after) ≡ map command_in entries)))
+pub record Builds (entries : List (List ℕ)) (buffer : List ℕ) (r : Result ℕ Refusal) (after : List ℕ) : Type 0 where
+  pub value : r ≡ answered (built_number entries (length buffer)) (built_length entries (length buffer))
+  pub table_after : after ≡ built_bytes entries buffer
+  pub reads_back : IfOk r (λ size. commands_of (take size after) ≡ map command_in entries)
 
 -- "more than 16 gives 2", where there are at most 2,048 bytes.
 pub ends-many : (entries : List (List ℕ)) (room : ℕ) → Five entries → 16 < ends_in entries → length (list_bytes entries) ≤ 2048 → built_number entries room ≡ 2
@@ -90,53 +87,84 @@ ends-many entries room five many h =
 
 module _ (entries : List (List ℕ)) (buffer : List ℕ) where
   -- The bytes are turned down.
-  pub build-refused : {n : ℕ} → n ≡ number_of work_limit (list_bytes entries) → (n ≡ 0 → ⊥) → Builds entries buffer n 0 buffer
-  unfolding built_number built_length built_bytes
-  build-refused e some =
-      let k = ne_eqb (number_of work_limit (list_bytes entries)) 0 (λ z. some (e ∙ z)) in
-      (rw k e, (rw (k, k), (rw (k, k), λ z. absurd (some z))))
+  pub build-refused : (e : Refusal) → refusal_number e ≡ number_of work_limit (list_bytes entries) → Builds entries buffer (Err e) buffer
+  unfolding built_number built_bytes
+  build-refused e is =
+      let some = refusal_some e in
+      let k = ne_eqb (refusal_number e) 0 (λ z. omega arith) in
+      record {
+        value = rw (← is, k) (sym (answered_refusal e (built_length entries (length buffer))));
+        table_after = rw (← is, k, k);
+        reads_back = tt;
+      }
+
+  -- More than 2,048 bytes would be made.
+  pub build-long : 2048 < length (list_bytes entries) → Builds entries buffer (Err Size) buffer
+  build-long h = build-refused Size (sym (too_long work_limit (list_bytes entries) h))
 
   module _ (e : number_of work_limit (list_bytes entries) ≡ 0) where
     -- The buffer is too short.
-    pub build-short : length buffer < length (list_bytes entries) → Builds entries buffer 18 0 buffer
+    pub build-short : length buffer < length (list_bytes entries) → Builds entries buffer (Err Room) buffer
     unfolding built_number built_length built_bytes
-    build-short h = let k = lt-ltb _ _ h in (rw (e, k), (rw (e, k), (rw (e, k), λ z. absurd (let y : ⊥ = omega arith in y))))
+    build-short h = let k = lt-ltb _ _ h in record { value = rw (e, k); table_after = rw (e, k); reads_back = tt }
 
     -- The list is accepted.
     pub build-done : {n : ℕ} {made after : List ℕ} → Five entries → n ≡ length (list_bytes entries) → made ≡ list_bytes entries → n ≤ length buffer
-        → after ≡ made ++ drop (length made) buffer → Builds entries buffer 0 n after
+        → after ≡ made ++ drop (length made) buffer → Builds entries buffer (Ok n) after
     unfolding built_number built_length built_bytes
     build-done five l m h w =
         let k = le-ltb (length buffer) (length (list_bytes entries)) (omega arith) in
         let r = reads_back entries five (numbered work_limit (list_bytes entries) e) in
-        (rw (e, k), (rw (e, k) l, (rw (e, k, w, m), λ z. rw (w, m, l, take-append_seam (list_bytes entries) (drop (length (list_bytes entries)) buffer)) r)))
+        record {
+          value = rw (e, k, l);
+          table_after = rw (e, k, w, m);
+          reads_back = rw (w, m, l, take-append_seam (list_bytes entries) (drop (length (list_bytes entries)) buffer)) r;
+        }
 
 -- LIST
 
-abbrev pub Lists : List ℕ → List (List ℕ) → ℕ → ℕ → List (List ℕ) → Type 0
-Lists t entries number count after =
-    (number ≡ listed_number t (length entries))
-    × ((count ≡ listed_count t (length entries)) × ((after ≡ listed_entries t entries) × (number ≡ 0 → list_bytes (take count after) ≡ t)))
+pub record Lists (t : List ℕ) (entries : List (List ℕ)) (r : Result ℕ Refusal) (after : List (List ℕ)) : Type 0 where
+  pub value : r ≡ answered (listed_number t (length entries)) (listed_count t (length entries))
+  pub entries_after : after ≡ listed_entries t entries
+  pub builds_back : IfOk r (λ count. list_bytes (take count after) ≡ t)
 
 module _ (t : List ℕ) (entries : List (List ℕ)) where
   -- The table is turned down.
-  pub list-refused : {n : ℕ} → n ≡ number_of work_limit t → (n ≡ 0 → ⊥) → Lists t entries n 0 entries
-  unfolding listed_number listed_count listed_entries
-  list-refused e some =
-      let k = ne_eqb (number_of work_limit t) 0 (λ z. some (e ∙ z)) in
-      (rw k e, (rw (k, k), (rw (k, k), λ z. absurd (some z))))
+  pub list-refused : (e : Refusal) → refusal_number e ≡ number_of work_limit t → Lists t entries (Err e) entries
+  unfolding listed_number listed_entries
+  list-refused e is =
+      let some = refusal_some e in
+      let k = ne_eqb (refusal_number e) 0 (λ z. omega arith) in
+      record {
+        value = rw (← is, k) (sym (answered_refusal e (listed_count t (length entries))));
+        entries_after = rw (← is, k, k);
+        builds_back = tt;
+      }
 
   module _ (e : number_of work_limit t ≡ 0) where
     -- There are too few entries.
-    pub list-short : length entries < length (commands_of t) → Lists t entries 18 0 entries
+    pub list-short : length entries < length (commands_of t) → Lists t entries (Err Room) entries
     unfolding listed_number listed_count listed_entries
-    list-short h = let k = lt-ltb _ _ h in (rw (e, k), (rw (e, k), (rw (e, k), λ z. absurd (let y : ⊥ = omega arith in y))))
+    list-short h = let k = lt-ltb _ _ h in record { value = rw (e, k); entries_after = rw (e, k); builds_back = tt }
 
     -- The commands are listed.
     pub list_done : {n : ℕ} {after : List (List ℕ)} → Bytes t → n ≡ length (commands_of t) → n ≤ length entries
-        → after ≡ map entry_of (commands_of t) ++ drop (length (commands_of t)) entries → Lists t entries 0 n after
+        → after ≡ map entry_of (commands_of t) ++ drop (length (commands_of t)) entries → Lists t entries (Ok n) after
     unfolding listed_number listed_count listed_entries
     list_done b l h w =
         let k = le-ltb (length entries) (length (commands_of t)) (omega arith) in
         let s = take_at (map entry_of (commands_of t)) (drop (length (commands_of t)) entries) (length (commands_of t)) (length-map (commands_of t) entry_of) in
-        (rw (e, k), (rw (e, k) l, (rw (e, k) w, λ z. rw (w, l, s) (builds_back t b (numbered work_limit t e)))))
+        record {
+          value = rw (e, k, l);
+          entries_after = rw (e, k) w;
+          builds_back = rw (w, l, s) (builds_back t b (numbered work_limit t e));
+        }
+
+-- The numbers are those of their refusals.
+pub built_small : (entries : List (List ℕ)) (room : ℕ) → built_number entries room ≤ 18
+unfolding built_number
+built_small entries room = numbers_small (number_of work_limit (list_bytes entries)) (ltb room (length (list_bytes entries))) (number_small work_limit (list_bytes entries))
+
+pub listed_small : (t : List ℕ) (room : ℕ) → listed_number t room ≤ 18
+unfolding listed_number
+listed_small t room = numbers_small (number_of work_limit t) (ltb room (length (commands_of t))) (number_small work_limit t)

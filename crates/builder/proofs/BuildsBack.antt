@@ -8,10 +8,9 @@ use mathlib.Core.Path.{◌≡◌, refl, sym, ap, ◌∙◌}
 use lib.ListN.{length, take, take-append-drop}
 use lib.Dec.{eqb}
 use Rattle.program.specs.Command.{row_at, width_at, width, opcode, operands_of, padded, is_end}
-use Rattle.program.specs.Reading.{read, commands_of}
+use Rattle.program.specs.Reading.{whole, read, commands_of}
 use Rattle.program.specs.Scan.{scan, body_after}
 use Rattle.program.specs.declared.command.Command.{Command}
-use Rattle.program.specs.declared.reading.Reading.TheVariants.{Whole}
 use Rattle.program.proofs.Basic.{apart, Bytes, bytes_drop}
 use Rattle.program.proofs.ShapeReading.{firsts_take, read_as, known}
 use Rattle.program.proofs.ShapeOperands.{back}
@@ -20,7 +19,7 @@ use Rattle.builder.specs.Build.{bytes_in, entry_of, ends_in, bytes_of, list_byte
 use Rattle.builder.proofs.Entries.{bytes_split}
 
 -- The bytes that a command's entry makes are those that it was read from.
-entry_bytes : (s : List ℕ) {c : Command} → Bytes s → read s ≡ Whole c (width c) → bytes_in (entry_of c) ≡ take (width c) s
+entry_bytes : (s : List ℕ) {c : Command} → Bytes s → read s ≡ whole c (width c) → bytes_in (entry_of c) ≡ take (width c) s
 unfolding read entry_of width_at
 entry_bytes [] h r = apart (cc)
 entry_bytes (op ∷ s) {c} h r =

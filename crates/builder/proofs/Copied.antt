@@ -1,10 +1,10 @@
--- One list over the start of another, element by element: the loops that copy.
+-- One list over another, element by element.
 use Prim.Native.Nat.{ℕ, suc, ◌+◌, ◌≤◌, ◌<◌}
 use native.Mathlib.Omega.{arith}
 use native.Mathlib.Numerals.{add-one}
 use mathlib.Core.List.{List, ◌∷◌, ◌++◌, append-nil}
 use mathlib.Core.Path.{◌≡◌, ap, ◌∙◌}
-use lib.ListN.{length, get_or, take, drop, set, length-append, length-drop, drop_of_length-le}
+use lib.ListN.{length, get_or, take, drop, set, drop_of_length-le}
 use lib.Seq.{length-take-le, take_all, take-suc, drop-cons, append_snoc, set_at}
 
 module _ {A : Type 0} (a b : List A) where
@@ -20,16 +20,8 @@ module _ {A : Type 0} (a b : List A) where
       ∙ set_at (take i a) (get_or b i d) (drop (suc i) b) (get_or a i d) i (length-take-le i a (omega arith)) in
       rw (add-one, take-suc a i d h, append_snoc) put
 
-  -- As long as b.
-  pub copied_long : (i : ℕ) → i ≤ length a → i ≤ length b → length (copied i) ≡ length b
-  copied_long i h k = rw (length-append, length-take-le i a h, length-drop) (omega arith)
-
-  -- All of a.
-  pub copied_all : (i : ℕ) → length a ≤ i → i ≤ length a → copied i ≡ a ++ drop (length a) b
-  copied_all i h k = let e : i ≡ length a = omega arith in rw (e, take_all (length a) a (omega arith))
-
-  -- All of b is written over.
-  pub copied_over : (i : ℕ) → length b ≤ i → i ≤ length b → copied i ≡ take (length b) a
-  copied_over i h k =
-      let e : i ≡ length b = omega arith in
-      rw (e, drop_of_length-le b {i = length b} (omega arith)) (append-nil (take (length b) a))
+  -- All of a over all of b.
+  pub copied_all : (i : ℕ) → length a ≤ i → i ≤ length a → length b ≤ i → copied i ≡ a
+  copied_all i h k l =
+      let e : i ≡ length a = omega arith in
+      rw (e, take_all (length a) a (omega arith), drop_of_length-le b {i = length a} (omega arith)) (append-nil a)

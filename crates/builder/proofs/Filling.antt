@@ -10,7 +10,9 @@ use lib.Seq.{length-take-le, drop-append-le, take-append-add, take_at}
 use borrow.Rule.Slice.PartMut.{put_mid}
 use Rattle.program.specs.Command.{width_at}
 use Rattle.builder.specs.Build.{bytes_in, ends_in, bytes_of, list_bytes}
-use Rattle.builder.specs.Filled.{capped, Counted, Filled}
+use Rattle.std.specs.Prelude.{Some, None}
+use Rattle.program.proofs.Basic.{apart}
+use Rattle.builder.specs.Filled.{capped, Counted, Written, Filled}
 use Rattle.builder.proofs.Entries.{bytes_long, bytes_next, ends_next}
 
 -- The bytes of the first i entries are written, `at` with byte 0, and so many ENDs are counted.
@@ -56,13 +58,13 @@ module _ {entries : List (List ℕ)} {out : List ℕ} {at ends i : ℕ} (f : Fil
     next_long = bytes_long (get_or entries i []) whole ∙ sym w
 
     -- The next entry has no room.
-    pub filling_over : 2048 < at + size → Filled entries out 0
+    pub filling_over : 2048 < at + size → Filled entries out None
     unfolding list_bytes
     filling_over over =
         let e = filled_long in
         let b = ap length (bytes_next entries i h) ∙ length-append (bytes_in (get_or entries i [])) (bytes_of (drop (i + 1) entries)) in
         let l = next_long in
-        record { over = λ _. refl; fits = λ few. absurd (let y : ⊥ = omega arith in y) }
+        record { over = λ _. omega arith; fits = λ n q. apart (cc) }
 
     -- The next entry is written.
     pub filling_more : {e : List ℕ} {now : ℕ} → at + size ≤ 2048 → e ≡ take size (get_or entries i []) → Counted ends (get_or (get_or entries i []) 0 0) now
@@ -102,15 +104,11 @@ module _ {entries : List (List ℕ)} {out : List ℕ} {at ends i : ℕ} (f : Fil
             by (no m) = let q : j ≡ i = omega arith in rw q whole
 
   -- All entries are written.
-  pub filling_done : length entries ≤ i → Filled entries (set out 0 ends) at
+  pub filling_done : length entries ≤ i → Filled entries (set out 0 ends) (Some at)
   unfolding list_bytes bytes_of ends_in
   filling_done h = record {
-    over = λ long. absurd (let y : ⊥ = omega (arith, filled_long, none_long, f.room) in y);
-    fits = λ few. record {
-      long = omega (arith, filled_long, none_long);
-      bytes = first out at ends (omega (arith, f.full)) f.some ∙ rw (ends_are, ← bytes_are);
-      five = λ j l. f.five j (omega arith);
-    };
+    over = λ q. apart (cc);
+    fits = λ n q. let same : at ≡ n = cc in rw (← same) all;
   }
     where
       none : drop i entries ≡ []
@@ -124,3 +122,10 @@ module _ {entries : List (List ℕ)} {out : List ℕ} {at ends i : ℕ} (f : Fil
 
       ends_are : ends ≡ capped (ends_in entries)
       ends_are = let e = rw none at f.counted in omega (arith, f.few)
+
+      all : Written entries (set out 0 ends) at
+      all = record {
+        long = omega (arith, filled_long, none_long);
+        bytes = first out at ends (omega (arith, f.full)) f.some ∙ rw (ends_are, ← bytes_are);
+        five = λ j l. f.five j (omega arith);
+      }

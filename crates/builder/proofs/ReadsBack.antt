@@ -5,11 +5,12 @@ use mathlib.Core.List.{List, [], ◌∷◌, ◌++◌, map}
 use mathlib.Core.Path.{◌≡◌, refl, sym, ◌∙◌}
 use lib.ListN.{length, get_or, take, drop}
 use lib.Seq.{drop_at}
+use Rattle.std.specs.Prelude.{Ok}
 use Rattle.program.specs.Command.{row_at, opcode, width}
 use Rattle.program.specs.Reading.{read, commands_of}
 use Rattle.program.specs.Scan.{scan, body_after}
 use Rattle.program.specs.declared.command.Command.{Command}
-use Rattle.program.specs.declared.reading.Reading.TheVariants.{Whole}
+use Rattle.program.specs.declared.reading.Whole.{Whole}
 use Rattle.program.proofs.Basic.{apart}
 use Rattle.program.proofs.ShapeReading.{read_as}
 use Rattle.program.proofs.ShapeOperands.{looks}
@@ -23,14 +24,14 @@ pub record EntryRead (l : List ℕ) (c : Command) (size : ℕ) : Type 0 where
   pub long : length (bytes_in l) ≡ size
   pub byte : opcode c ≡ get_or l 0 0
 
-pub entry_read : {l : List ℕ} {c : Command} {size : ℕ} → Entry l → (rest : List ℕ) → read (bytes_in l ++ rest) ≡ Whole c size → EntryRead l c size
+pub entry_read : {l : List ℕ} {w : Whole} → Entry l → (rest : List ℕ) → read (bytes_in l ++ rest) ≡ Ok w → EntryRead l w.command w.size
 unfolding command_in
 entry_read (bytes op x y z w) rest r =
     let a = read_as op (take (length (row_at op).operands) (x ∷ y ∷ z ∷ w ∷ []) ++ rest) (rw bytes_split at r) in
     record { same = sym a.same ∙ looks x y z w rest op a.listed; long = bytes_long (op ∷ x ∷ y ∷ z ∷ w ∷ []) refl ∙ a.wide; byte = a.byte }
 
 -- Nothing is read where there are no bytes, and an entry makes some.
-none_read : {s : List ℕ} {c : Command} {size : ℕ} {A : Type 0} → s ≡ [] → read s ≡ Whole c size → A
+none_read : {s : List ℕ} {w : Whole} {A : Type 0} → s ≡ [] → read s ≡ Ok w → A
 unfolding read
 none_read e r = apart (let z = rw e at r in cc)
 

@@ -3,20 +3,24 @@ use Prim.Native.Nat.{ℕ, zero, suc, ◌+◌, ◌≤◌}
 use native.Mathlib.Omega.{arith}
 use mathlib.Core.List.{List, [], ◌∷◌, ◌++◌}
 use mathlib.Core.Bool.{Bool, true, false, cond}
-use mathlib.Core.Path.{◌≡◌, refl, sym, ap}
+use mathlib.Core.Path.{◌≡◌, refl, sym, ap, ◌∙◌}
 use lib.ListN.{length, get_or, take, length-append}
 use lib.Seq.{length-take-le, drop_at}
 use lib.Dec.{ltb, eqb}
 use borrow.Author.Tests.{eq-eqb, ne_eqb}
 use Rattle.program.specs.Command.{row_at, width_at, is_end, opcode}
 use Rattle.program.specs.Bodies.{program_of}
-use Rattle.program.specs.Reading.{refusal_of, read, readings_after, readings}
+use Rattle.std.specs.Prelude.{Ok, Err}
+use Rattle.program.specs.Refusal.{refusal_number, refusal_at}
+use Rattle.program.specs.Reading.{Reading, read, readings_after, readings}
 use Rattle.program.specs.Scan.{name_fits, atom_fits, placing, left_after, body_after, verdict, fits_length, fits_bodies, scan}
 use Rattle.program.specs.Count.{work_of, activities_of, clocks_of, accumulators_of}
 use Rattle.program.specs.Table.{over_count, number_of}
 use Rattle.program.specs.declared.command.Command.{Command}
-use Rattle.program.specs.declared.reading.Reading.{Reading}
-use Rattle.program.specs.declared.reading.Reading.TheVariants.{Whole, Unknown, Cut, Outside}
+use Rattle.program.specs.declared.reading.Whole.{Whole}
+use Rattle.program.specs.declared.refusal.Refusal.{Refusal}
+use Rattle.program.specs.declared.refusal.Refusal.TheVariants.{Cut}
+use Rattle.program.proofs.Refusals.{answered_at, answered_refusal}
 use Rattle.program.proofs.RowLaws.{width_few}
 use Rattle.program.proofs.ShapeReading.{not_cut}
 use Rattle.program.proofs.ReadLaws.{Stopped, ran_out, stopped, readings_whole, readings_stop}
@@ -25,7 +29,7 @@ use Rattle.builder.proofs.Entries.{Five, Entry, bytes, five_bytes, bytes_split}
 use Rattle.builder.proofs.ReadsBack.{entry_read}
 
 -- An entry's bytes are all there.
-entry_uncut : {l : List ℕ} → Entry l → (rest : List ℕ) → read (bytes_in l ++ rest) ≡ Cut → ⊥
+entry_uncut : {l : List ℕ} → Entry l → (rest : List ℕ) → read (bytes_in l ++ rest) ≡ Err Cut → ⊥
 unfolding width_at
 entry_uncut (bytes op x y z w) rest h =
     let kinds = (row_at op).operands in
@@ -35,21 +39,18 @@ entry_uncut (bytes op x y z w) rest h =
     not_cut op s long (rw bytes_split at h)
 
 -- Where no whole command is read, and the bytes are not cut.
-stop_four : (n i left : ℕ) (r : Reading) {s : List ℕ} {rs : List Reading} → (refusal_of r ≡ 4 → ⊥) → (refusal_of r ≡ 0 → ⊥) → Stopped r s rs → verdict n i left rs ≡ 4 → ⊥
+refused_four : (e : Refusal) → refusal_number e ≡ 4 → e ≡ Cut
+refused_four e h =
+    sym (answered_at (refusal_number e) (tt {0}) (answered_refusal e (tt {0}))).1 ∙ ap refusal_at h
+
+stop_four : (n i left : ℕ) (e : Refusal) {s : List ℕ} {rs : List Reading} → (e ≡ Cut → ⊥) → Stopped e s rs → verdict n i left rs ≡ 4 → ⊥
 unfolding verdict
-stop_four n i left r uncut bad (ran_out e) v = uncut (ap refusal_of (sym e))
-stop_four n i left (Whole c size) uncut bad stopped v = bad refl
-stop_four n i left Cut uncut bad stopped v = uncut refl
-stop_four n i left Unknown uncut bad stopped v = by (eqb i n) v
+stop_four n i left e uncut (ran_out c) v = uncut (sym c)
+stop_four n i left e uncut stopped v = by (eqb i n) v
   where
-    by : (b : Bool) → ◌≡◌ {A = ℕ} (cond b 8 3) 4 → ⊥
-    by true e = omega arith
-    by false e = omega arith
-stop_four n i left Outside uncut bad stopped v = by (eqb i n) v
-  where
-    by : (b : Bool) → ◌≡◌ {A = ℕ} (cond b 8 5) 4 → ⊥
-    by true e = omega arith
-    by false e = omega arith
+    by : (b : Bool) → cond b 8 (refusal_number e) ≡ 4 → ⊥
+    by true h = omega arith
+    by false h = uncut (refused_four e h)
 
 -- A command that is read gives 6, 7 or 8, or what comes later decides.
 placed_four : (q a b : Bool) (later : ℕ) → cond q 8 (cond (eqb (cond a (cond b 0 7) 6) 0) later (cond a (cond b 0 7) 6)) ≡ 4 → later ≡ 4
@@ -58,9 +59,10 @@ placed_four false true true later e = e
 placed_four false true false later e = absurd (let y : ⊥ = omega arith in y)
 placed_four false false b later e = absurd (let y : ⊥ = omega arith in y)
 
-whole_four : (n i left : ℕ) (c : Command) (size : ℕ) (rs : List Reading) → verdict n i left (Whole c size ∷ rs) ≡ 4 → verdict n (body_after i c) (left_after left c) rs ≡ 4
+whole_four : (n i left : ℕ) (w : Whole) (rs : List Reading) → verdict n i left (Ok w ∷ rs) ≡ 4 → verdict n (body_after i w.command) (left_after left w.command) rs ≡ 4
 unfolding verdict placing
-whole_four n i left c size rs v = placed_four (eqb i n) (name_fits n i c) (atom_fits left c) (verdict n (body_after i c) (left_after left c) rs) v
+whole_four n i left w rs v =
+    let c = w.command in placed_four (eqb i n) (name_fits n i c) (atom_fits left c) (verdict n (body_after i c) (left_after left c) rs) v
 
 -- Each END that is read ends a body.
 ends_on : (n i op : ℕ) (c : Command) (later : ℕ) → opcode c ≡ op → i + (cond (eqb op 0x00) 1 0 + later) ≡ n → body_after i c + later ≡ n
@@ -86,15 +88,14 @@ module _ (n : ℕ) where
       view = five_bytes l (five 0 (omega arith))
 
       by : (r : Reading) → r ≡ read (bytes_in l ++ bytes_of entries) → ((i left : ℕ) → Five entries → i + ends_in entries ≡ n → verdict n i left (readings (bytes_of entries)) ≡ 4 → ⊥) → ⊥
-      by (Whole c size) h ih =
+      by (Ok w) h ih =
+          let c = w.command in
           let a = entry_read view (bytes_of entries) (sym h) in
-          let w = readings_whole (bytes_in l ++ bytes_of entries) c size h in
-          let d = drop_at (bytes_in l) (bytes_of entries) size a.long in
-          let f = whole_four n i left c size (readings (bytes_of entries)) (rw (w, d) at v) in
+          let k = readings_whole (bytes_in l ++ bytes_of entries) w h in
+          let d = drop_at (bytes_in l) (bytes_of entries) w.size a.long in
+          let f = whole_four n i left w (readings (bytes_of entries)) (rw (k, d) at v) in
           ih (body_after i c) (left_after left c) (λ j k. five (suc j) (omega arith)) (ends_on n i (get_or l 0 0) c (ends_in entries) a.byte e) f
-      by Unknown h ih = stop_four n i left Unknown (λ z. omega arith) (λ z. omega arith) (readings_stop _ Unknown h (λ z. omega arith)) v
-      by Cut h ih = entry_uncut view (bytes_of entries) (sym h)
-      by Outside h ih = stop_four n i left Outside (λ z. omega arith) (λ z. omega arith) (readings_stop _ Outside h (λ z. omega arith)) v
+      by (Err x) h ih = stop_four n i left x (λ z. entry_uncut view (bytes_of entries) (sym h ∙ ap Err z)) (readings_stop _ x h) v
 
 -- Number 4 is the scan's, and there the readings'.
 later_four : (x m : ℕ) → (m ≡ 4 → ⊥) → cond (eqb x 0) m x ≡ 4 → x ≡ 4

@@ -1,17 +1,17 @@
 -- Walking through the commands of an accepted table.
 use Prim.Native.Nat.{ℕ, zero, suc, ◌+◌, ◌≤◌, ◌<◌}
 use native.Mathlib.Omega.{arith}
+use native.Mathlib.Decide.{dec_le}
 use native.Mathlib.Numerals.{add-one}
 use mathlib.Core.List.{List, [], ◌∷◌}
 use mathlib.Core.Path.{◌≡◌, refl, sym, ◌∙◌}
 use lib.ListN.{length, get_or, drop, length-drop}
 use lib.Seq.{drop-drop}
 use Rattle.program.specs.Command.{width_at, width}
-use Rattle.program.specs.Reading.{read, bare, commands_of}
+use Rattle.program.specs.Reading.{whole, read, bare, commands_of}
 use Rattle.program.specs.Scan.{scan}
 use Rattle.program.specs.declared.command.Command.{Command}
 use Rattle.program.specs.declared.command.Command.TheVariants.{End}
-use Rattle.program.specs.declared.reading.Reading.TheVariants.{Whole}
 use Rattle.program.proofs.Basic.{apart}
 use Rattle.program.proofs.RangeLaws.{whole_bare}
 use Rattle.program.proofs.ShapeReading.{read_first, known}
@@ -65,7 +65,7 @@ record Ahead (n : ℕ) (s : List ℕ) (cs : List Command) : Type 0 where
   body : ℕ
   left : ℕ
   same : cs ≡ command ∷ rest
-  own : read s ≡ Whole command (width command)
+  own : read s ≡ whole command (width command)
   later : Listed n body left (drop (width command) s) rest
 
 first_listed : {n i left : ℕ} {s : List ℕ} {cs : List Command} → Listed n i left s cs → 0 < length s → Ahead n s cs
@@ -79,16 +79,21 @@ module _ {t : List ℕ} {at i : ℕ} (w : Walking t at i) where
       let e = rw length-drop at (none_listed w.listed (rw length-drop (omega arith))) in
       omega arith
 
-  -- A command follows.
+  -- Before the last command some bytes follow,
+  pub walking_ahead : i < length (commands_of t) → at < length t
+  walking_ahead h = by (dec_le (length t) at)
+    where
+      by : Dec (length t ≤ at) → at < length t
+      by (yes e) = absurd (let d = walking_done e in let y : ⊥ = omega arith in y)
+      by (no e) = omega arith
+
+  -- and where some do, a command.
   module _ (h : at < length t) where
     ahead : Ahead (get_or t 0 0) (drop at t) (drop i (commands_of t))
     ahead = first_listed w.listed (rw length-drop (omega arith))
 
     its : First (commands_of t) i End ahead.command ahead.rest
     its = first (commands_of t) i End ahead.command ahead.rest ahead.same
-
-    pub walking_below : i < length (commands_of t)
-    walking_below = its.lower
 
     pub walking_here : bare (drop at t) ≡ get_or (commands_of t) i End
     walking_here = whole_bare (drop at t) ahead.own ∙ sym its.here

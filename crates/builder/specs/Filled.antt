@@ -1,5 +1,5 @@
 -- What the functions of this crate promise each other: a reader need not believe it.
-use Rattle.std.specs.Prelude.{ℕ, ◌+◌, ◌≤◌, ◌<◌, min, ◌≡◌, List, [], ◌∷◌, cond, length, get_or, take, eqb}
+use Rattle.std.specs.Prelude.{ℕ, ◌+◌, ◌≤◌, ◌<◌, min, ◌≡◌, List, [], ◌∷◌, cond, length, get_or, take, eqb, Option, Some, None}
 use Rattle.builder.specs.Build.{ends_in, bytes_of, list_bytes}
 
 -- The ENDs are counted up to 17, one above the greatest number of bodies.
@@ -16,7 +16,7 @@ pub record Written (entries : List (List ℕ)) (out : List ℕ) (n : ℕ) : Type
   pub bytes : take n out ≡ capped (ends_in entries) ∷ bytes_of entries
   pub five : (i : ℕ) → i < length entries → length (get_or entries i []) ≡ 5
 
--- The first n of 2,048 bytes are those of the entries, where there are no more than 2,048; else n is 0.
-pub record Filled (entries : List (List ℕ)) (out : List ℕ) (n : ℕ) : Type 0 where
-  pub over : 2048 < length (list_bytes entries) → n ≡ 0
-  pub fits : length (list_bytes entries) ≤ 2048 → Written entries out n
+-- The bytes of the entries stand at the start of the buffer, where there are no more than 2,048.
+pub record Filled (entries : List (List ℕ)) (out : List ℕ) (r : Option ℕ) : Type 0 where
+  pub over : r ≡ None → 2048 < length (list_bytes entries)
+  pub fits : (n : ℕ) → r ≡ Some n → Written entries out n

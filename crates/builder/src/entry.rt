@@ -5,10 +5,10 @@ ghost use Rattle.builder.specs.Build.{entry_of};
 use program::command::{Command, opcode, operands};
 
 // The command byte, its operand bytes, and 0 for those that it lacks.
+#[tactic(auto, unfolding(crate::specs::Build::entry_of))]
 pub fn entry_of(command: Command) -> [u8; 5]
     ensures { result ≡ entry_of command }
 {
-    let op = opcode(command);
-    let bytes = operands(command);
-    [op as u8, bytes[0], bytes[1], bytes[2], bytes[3]]
+    let [x, y, z, w] = operands(command);
+    [opcode(command) as u8, x, y, z, w]
 }

@@ -7,7 +7,7 @@ use mathlib.Core.List.{List, ◌∷◌, ◌++◌}
 use mathlib.Core.Bool.{cond}
 use lib.Dec.{eqb}
 use lib.ListN.{length, set, replicate, replicate-append-replicate}
-use borrow.Author.Tests.{eq-eqb, ne_eqb}
+use borrow.Author.Tests.{eq-eqb}
 use Rattle.rules.specs.declared.state.Activity.{Activity}
 use Rattle.rules.specs.declared.state.State.{State}
 use Rattle.rules.specs.State.{no_accumulator, no_activity, zero_state}
@@ -54,9 +54,6 @@ zero_bytes =
 -- It is written over zeros.
 pub none_written : (b : List ℕ) {z c : List ℕ} → length b ≡ 13776 → z ≡ replicate (length b) 0 → c ≡ set z 0 1 → c ≡ cond (eqb (length b) 13776) (encode_state zero_state) b
 none_written b n e f = rw (eq-eqb (length b) 13776 n, zero_bytes) (f ∙ rw (e, n))
-
-pub stays : (b x : List ℕ) → (length b ≡ 13776 → ⊥) → b ≡ cond (eqb (length b) 13776) x b
-stays b x h = rw (ne_eqb (length b) 13776 h)
 
 -- THE START STATE
 

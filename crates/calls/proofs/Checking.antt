@@ -1,45 +1,40 @@
 -- What the reader of tables and number 13's check give.
-use Prim.Native.Nat.{ℕ, ◌≤◌}
+use Prim.Native.Nat.{ℕ}
 use native.Mathlib.Omega.{arith}
-use mathlib.Core.Path.{◌≡◌, refl, sym, ap, ◌∙◌}
+use mathlib.Core.Path.{◌≡◌, refl, sym, ◌∙◌}
 use mathlib.Core.List.{List}
 use mathlib.Core.Bool.{Bool, true, false, cond}
 use lib.Dec.{eqb}
 use borrow.Author.Tests.{eqb-true, eqb-false}
-use Rattle.program.specs.Bodies.{program_of}
-use Rattle.program.specs.Count.{work_of}
-use Rattle.program.specs.Table.{work_limit, number_of, counted, table_of}
+use Rattle.std.specs.Prelude.{Result, Ok, Err}
+use Rattle.program.specs.declared.refusal.Refusal.{Refusal}
 use Rattle.program.specs.declared.table.Table.{Table}
-use Rattle.program.proofs.ShapeLaws.{numbered, numbered_counted, table_number, table_counted}
+use Rattle.program.specs.Bodies.{program_of}
+use Rattle.program.specs.Refusal.{refusal_number}
+use Rattle.program.specs.Table.{work_limit, number_of, counted, table_of}
+use Rattle.program.proofs.NumberLaws.{number_small}
+use Rattle.program.proofs.Refusals.{answered_err}
 use Rattle.rules.specs.WellFormed.{well_formed}
 use Rattle.rules.specs.Steps.{base, unfit}
-use Rattle.places.specs.Known.{Known}
 use Rattle.encoding.specs.Decode.{encodes, state_of}
 use Rattle.wellformed.specs.Passing.{unfit_bytes}
+use Rattle.wellformed.proofs.Numbers.{Read, checked, checked_ok, checked_err}
 use Rattle.calls.specs.Calls.{table_first, unfit_number}
 
 -- THE TABLE
 
-module _ (t : List ℕ) {found : Table} (e : found ≡ table_of work_limit t) where
-  -- The number that was read.
-  pub number_read : found.number ≡ number_of work_limit t
-  number_read = ap (λ (x : Table). x.number) e ∙ table_number work_limit t
+module _ (t : List ℕ) where
+  -- It was turned down.
+  pub read_err : {r : Result Table Refusal} {e : Refusal} → r ≡ table_of work_limit t → r ≡ Err e → (refusal_number e ≡ number_of work_limit t) × (refusal_number e ≡ 0 → ⊥)
+  unfolding table_of
+  read_err is e =
+      let h = answered_err (number_of work_limit t) (counted t) (sym is ∙ e) (let k = number_small work_limit t in omega arith) in
+      (h.0, λ z. omega arith)
 
-  module _ (z : number_of work_limit t ≡ 0) where
-    counted_read : found ≡ counted t
-    counted_read = e ∙ table_counted work_limit t z
-
-    -- The layout and the work that were read.
-    pub known_read : Known t found.layout.starts
-    unfolding counted
-    known_read = record { scanned = numbered work_limit t z; laid = ap (λ (x : Table). x.layout.starts) counted_read }
-
-    pub work_read : found.work ≡ work_of (program_of t)
-    unfolding counted
-    work_read = ap (λ (x : Table). x.work) counted_read
-
-    pub work_small : found.work ≤ work_limit
-    work_small = rw work_read (numbered_counted work_limit t z).work
+  -- An accepted table is read so again.
+  pub read_back : {x : Table} → Read t x → table_of work_limit t ≡ Ok x
+  unfolding table_of
+  read_back r = rw (r.accepted, r.is)
 
 -- THE CHECK
 
@@ -49,26 +44,32 @@ pub record Passed (t b : List ℕ) : Type 0 where
   pub accepted : number_of work_limit t ≡ 0
   pub formed : well_formed 65535 (program_of t) (state_of b) ≡ true
 
-module _ (t b : List ℕ) {number : ℕ} (e : number ≡ unfit_bytes (number_of work_limit t) (program_of t) b) where
+module _ (t b : List ℕ) where
   -- The number of bytes that encode a state, and of others.
-  pub number_whole : encodes b ≡ true → number ≡ unfit base (number_of work_limit t) (program_of t) (state_of b)
+  pub number_whole : encodes b ≡ true → unfit_bytes (number_of work_limit t) (program_of t) b ≡ unfit base (number_of work_limit t) (program_of t) (state_of b)
   unfolding unfit_bytes
-  number_whole h = e ∙ rw h
+  number_whole h = rw h
 
-  pub number_none : encodes b ≡ false → number ≡ unfit_number t
+  pub number_none : encodes b ≡ false → unfit_bytes (number_of work_limit t) (program_of t) b ≡ unfit_number t
   unfolding unfit_bytes unfit_number table_first
-  number_none h = e ∙ rw h
+  number_none h = rw h
 
-  -- No number.
-  pub passed : number ≡ 0 → Passed t b
-  unfolding unfit_bytes unfit
-  passed z =
-      let q = parts (encodes b) (number_of work_limit t) (well_formed 65535 (program_of t) (state_of b)) (eqb (number_of work_limit t) 0) refl (sym e ∙ z) in
-      record { whole = q.0; accepted = q.1.0; formed = q.1.1 }
-    where
-      parts : (x : Bool) (n : ℕ) (w y : Bool) → eqb n 0 ≡ y → cond x (cond (eqb n 0) (cond w 0 13) n) (cond (eqb n 0) 13 n) ≡ 0 → (x ≡ true) × ((n ≡ 0) × (w ≡ true))
-      parts true n true true h e = (refl, (eqb-true n 0 h, refl))
-      parts true n false true h e = let z : ◌≡◌ {A = ℕ} 13 0 = rw h at e in absurd (omega arith)
-      parts true n w false h e = absurd (eqb-false n 0 h (rw h at e))
-      parts false n w true h e = let z : ◌≡◌ {A = ℕ} 13 0 = rw h at e in absurd (omega arith)
-      parts false n w false h e = absurd (eqb-false n 0 h (rw h at e))
+  module _ {r : Result Table Refusal} (is : r ≡ checked t b) where
+    -- A number.
+    pub turned_down : {e : Refusal} → r ≡ Err e → (refusal_number e ≡ unfit_bytes (number_of work_limit t) (program_of t) b) × (refusal_number e ≡ 0 → ⊥)
+    turned_down h = let k = checked_err t b is h in (k.0, λ z. omega arith)
+
+    -- No number.
+    pub passed : {x : Table} → r ≡ Ok x → Passed t b × Read t x
+    unfolding unfit_bytes unfit
+    passed h =
+        let k = checked_ok t b is h in
+        let q = parts (encodes b) (number_of work_limit t) (well_formed 65535 (program_of t) (state_of b)) (eqb (number_of work_limit t) 0) refl k.0 in
+        (record { whole = q.0; accepted = q.1.0; formed = q.1.1 }, k.1)
+      where
+        parts : (x : Bool) (n : ℕ) (w y : Bool) → eqb n 0 ≡ y → cond x (cond (eqb n 0) (cond w 0 13) n) (cond (eqb n 0) 13 n) ≡ 0 → (x ≡ true) × ((n ≡ 0) × (w ≡ true))
+        parts true n true true h e = (refl, (eqb-true n 0 h, refl))
+        parts true n false true h e = let z : ◌≡◌ {A = ℕ} 13 0 = rw h at e in absurd (omega arith)
+        parts true n w false h e = absurd (eqb-false n 0 h (rw h at e))
+        parts false n w true h e = let z : ◌≡◌ {A = ℕ} 13 0 = rw h at e in absurd (omega arith)
+        parts false n w false h e = absurd (eqb-false n 0 h (rw h at e))

@@ -3,9 +3,11 @@ use Prim.Native.Nat.{ℕ}
 use mathlib.Core.Path.{◌≡◌}
 use mathlib.Core.List.{List}
 use mathlib.Core.Bool.{true}
+use Rattle.program.specs.Refusal.{told}
 use Rattle.rules.specs.declared.state.State.{State}
 use Rattle.rules.specs.State.{answer_number}
 use Rattle.rules.specs.Steps.{base, step, ready}
+use Rattle.rules.specs.Steps.{ready_set as members}
 use Rattle.encoding.specs.Encode.{encode_state}
 use Rattle.encoding.specs.Decode.{encodes, state_of}
 use Rattle.encoding.proofs.StateLaws.{encode_state_encodes, encode_state_bytes, state_of_encode_state}
@@ -30,10 +32,10 @@ module _ (t : List ℕ) (s : State) (f : Fitting s) where
   step_bytes_lem i = rw back_to at (step_bytes_encode t (encode_state s) i (encode_state_bytes s f.sized f.fits) whole_of)
 
   -- The ready set.
-  pub ready_number_lem : ready_number t (encode_state s) ≡ (ready base t s).number
+  pub ready_number_lem : ready_number t (encode_state s) ≡ told (ready base t s)
   unfolding ready_number
   ready_number_lem = rw (whole_of, back_to)
 
-  pub ready_set_lem : ready_set t (encode_state s) ≡ (ready base t s).set
+  pub ready_set_lem : ready_set t (encode_state s) ≡ members (ready base t s)
   unfolding ready_set
   ready_set_lem = rw (whole_of, back_to)

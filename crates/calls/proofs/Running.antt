@@ -7,28 +7,20 @@ use mathlib.Core.Bool.{cond}
 use lib.ListN.{length, take}
 use lib.Dec.{eqb}
 use borrow.Author.Tests.{eq-eqb, ne_eqb, le-leb, lt-leb}
-use Rattle.program.specs.Bodies.{program_of}
-use Rattle.program.specs.Count.{work_of}
 use Rattle.program.specs.Table.{work_limit, number_of}
-use Rattle.rules.specs.declared.state.State.{State}
 use Rattle.rules.specs.Steps.{base, start_state}
 use Rattle.rules.proofs.Demand3.{good_start, good_run, run_start, answers_start}
 use Rattle.rules.proofs.AwaitedCalls.{awaiteds_start}
-use Rattle.places.specs.Known.{Known}
 use Rattle.encoding.specs.Encode.{encode_state}
 use Rattle.fields.proofs.Start.{lent_start}
 use Rattle.turns.specs.Turns.{Followable, answered_from, awaited_into, Follows}
 use Rattle.calls.specs.Calls.{table_first, length_number, fits_state, run_number, run_answers, run_bytes, trace_counts}
 
 -- An order can be followed from the start of an accepted table: each state of a run is well-formed.
-pub from_start : (t order : List ℕ) {starts : List ℕ} {work room : ℕ} → number_of work_limit t ≡ 0 → Known t starts → work ≡ work_of (program_of t) → work ≤ work_limit → length order ≤ room
-    → Followable t starts work start_state order room
-from_start t order z known counted small room =
+pub from_start : (t order : List ℕ) {room : ℕ} → number_of work_limit t ≡ 0 → length order ≤ room → Followable t start_state order room
+from_start t order z room =
     record {
-      known = known;
       accepted = z;
-      counted = counted;
-      small = small;
       formed = λ k h. (good_run base t (omega arith) z (take k order) start_state (good_start base t (omega arith) z)).fit;
       fits = room;
     }
@@ -69,12 +61,12 @@ module _ (t order buffer counts b : List ℕ) where
         number_done = rw (z, eq-eqb (length b) 13776 l, le-leb (length order) (length buffer) room)
 
         -- The order is followed from the start state.
-        pub run_followed : {starts begun filled told after : List ℕ} {work : ℕ} {s : State} → Known t starts → work ≡ work_of (program_of t) → work ≤ work_limit → s ≡ start_state
-            → begun ≡ cond (eqb (length b) 13776) (encode_state s) b → Follows t starts work order buffer filled counts told begun after → Ends 0 filled told after
+        pub run_followed : {begun filled told after : List ℕ} → begun ≡ cond (eqb (length b) 13776) (encode_state start_state) b
+            → Follows t order buffer filled counts told begun after → Ends 0 filled told after
         unfolding run_answers run_bytes trace_counts answered_from awaited_into
-        run_followed {begun = begun} known counted small e f m =
-            let g : begun ≡ encode_state start_state = f ∙ rw (eq-eqb (length b) 13776 l, e) in
-            let w = m.follows start_state (lent_start g) (from_start t order z known counted small room) in (
+        run_followed {begun} e m =
+            let g : begun ≡ encode_state start_state = e ∙ rw (eq-eqb (length b) 13776 l) in
+            let w = m.follows start_state (lent_start g) (from_start t order z room) in (
               number_done,
               (
                 w.1 ∙ rw (sym number_done, answers_start base t (omega arith) z order),

@@ -1,30 +1,31 @@
 -- A step: turned down by the check, or a turn in the lent bytes.
-use Prim.Native.Nat.{ℕ, ◌≤◌}
+use Prim.Native.Nat.{ℕ}
+use Rattle.std.specs.Prelude.{Ok, Err}
 use mathlib.Core.Path.{◌≡◌, refl, sym, ap, ◌∙◌}
 use mathlib.Core.List.{List}
 use mathlib.Core.Bool.{Bool, true, false}
 use borrow.Author.Tests.{ne_eqb}
 use Rattle.program.specs.Bodies.{program_of}
-use Rattle.program.specs.Count.{work_of}
 use Rattle.program.specs.Table.{work_limit, number_of}
+use Rattle.program.specs.Refusal.{refusal_number, refusal_at}
 use Rattle.program.proofs.Basic.{Bytes}
 use Rattle.rules.specs.declared.state.State.{State}
-use Rattle.rules.specs.declared.answer.Answer.{Answer}
-use Rattle.rules.specs.declared.answer.Answer.TheVariants.{Accepted, Refused}
 use Rattle.rules.specs.declared.answer.Stepped.{Stepped}
+use Rattle.rules.specs.State.{Answer}
 use Rattle.rules.specs.WellFormed.{well_formed}
-use Rattle.rules.specs.Steps.{base, unfit, stepped, step_with, step, advance}
+use Rattle.rules.specs.Steps.{base, stepped, step_with, step, advance}
+use Rattle.rules.proofs.AnswerNumbers.{unfit_number}
 use Rattle.rules.proofs.StepLaws.{fit, step_refused}
-use Rattle.places.specs.Known.{Known}
 use Rattle.encoding.specs.Encode.{encode_state}
 use Rattle.encoding.specs.Decode.{encodes, state_of}
 use Rattle.encoding.proofs.StateLaws.{encode_state_state_of}
+use Rattle.moves.specs.Moves.{taken_number}
 use Rattle.turns.specs.declared.Reply.{Reply}
 use Rattle.turns.specs.Turns.{TurnsAny}
 use Rattle.wellformed.specs.Passing.{unfit_bytes}
 use Rattle.calls.specs.Calls.{step_number, bytes_after, step_bytes}
 use Rattle.calls.proofs.Lending.{lent_bytes}
-use Rattle.calls.proofs.Checking.{number_whole, number_none, passed}
+use Rattle.calls.proofs.Checking.{number_whole, number_none, Passed}
 
 -- THE BYTES AFTER A STEP
 
@@ -34,8 +35,8 @@ unfolding step_bytes bytes_after
 step_bytes_encode t b i y e = rw e (go (step base t (state_of b) i).answer refl)
   where
     go : (a : Answer) → (step base t (state_of b) i).answer ≡ a → bytes_after (step base t (state_of b) i) b ≡ encode_state (step base t (state_of b) i).state
-    go (Accepted status) h = rw h
-    go (Refused n) h = rw (h, step_refused base t (state_of b) i n h) (sym (encode_state_state_of b y e))
+    go (Ok status) h = rw h
+    go (Err r) h = rw (h, step_refused base t (state_of b) i r h) (sym (encode_state_state_of b y e))
 
 -- THE CALL
 
@@ -44,28 +45,29 @@ pub step_advance : (t : List ℕ) (s : State) (i : ℕ) → number_of work_limit
 unfolding step step_with
 step_advance t s i n w = rw (fit base t s n w)
 
--- With a number of the check.
-step_unfit : (t : List ℕ) (s : State) (i : ℕ) {n : ℕ} → n ≡ unfit base (number_of work_limit t) (program_of t) s → (n ≡ 0 → ⊥) → step base t s i ≡ stepped (Refused n) s
-unfolding step step_with
-step_unfit t s i {n} e h = rw (sym e, ne_eqb n 0 h)
-
-module _ (t b : List ℕ) (i : ℕ) {n : ℕ} (e : n ≡ unfit_bytes (number_of work_limit t) (program_of t) b) where
+module _ (t b : List ℕ) (i : ℕ) where
   -- Turned down by the check: the bytes stay.
-  pub step_kept : (n ≡ 0 → ⊥) → (n ≡ step_number t b i) × (b ≡ step_bytes t b i)
-  unfolding step_number step_bytes bytes_after
-  step_kept h = go (encodes b) refl
-    where
-      go : (x : Bool) → encodes b ≡ x → (n ≡ step_number t b i) × (b ≡ step_bytes t b i)
-      go true w = let q = step_unfit t (state_of b) i (number_whole t b e w) h in (rw (w, q), rw (w, q))
-      go false w = (rw w (number_none t b e w), rw w)
+  module _ {n : ℕ} (e : n ≡ unfit_bytes (number_of work_limit t) (program_of t) b) (h : n ≡ 0 → ⊥) where
+    step_unfit : encodes b ≡ true → step base t (state_of b) i ≡ stepped (Err (refusal_at n)) (state_of b)
+    unfolding step step_with
+    step_unfit w = let q = e ∙ number_whole t b w in rw (sym q, ne_eqb n 0 h)
+
+    step_unfit_number : encodes b ≡ true → refusal_number (refusal_at n) ≡ n
+    step_unfit_number w = let q = e ∙ number_whole t b w in rw q (unfit_number base t (state_of b) (λ z. h (q ∙ z)))
+
+    pub step_kept : (n ≡ step_number t b i) × (b ≡ step_bytes t b i)
+    unfolding step_number step_bytes bytes_after
+    step_kept = go (encodes b) refl
+      where
+        go : (x : Bool) → encodes b ≡ x → (n ≡ step_number t b i) × (b ≡ step_bytes t b i)
+        go true w = (rw (w, step_unfit w) (sym (step_unfit_number w)), rw (w, step_unfit w))
+        go false w = (rw w (e ∙ number_none t b w), rw w)
 
   -- The turn of a well-formed state.
-  pub step_turned : {starts c : List ℕ} {work : ℕ} {r : Reply} → n ≡ 0 → Bytes b → Known t starts → work ≡ work_of (program_of t) → work ≤ work_limit
-      → TurnsAny t starts b c work i r → (r.number ≡ step_number t b i) × (c ≡ step_bytes t b i)
+  pub step_turned : {c : List ℕ} {r : Reply} → Passed t b → Bytes b → TurnsAny t b c i r → (taken_number r.answer ≡ step_number t b i) × (c ≡ step_bytes t b i)
   unfolding step_number
-  step_turned z y known counted small m =
-      let p = passed t b e z in
-      let d = m.turns known counted small (state_of b) (lent_bytes b y p.whole) p.formed in
+  step_turned p y m =
+      let d = m.turns (state_of b) (lent_bytes b y p.whole) p.formed in
       let q = step_advance t (state_of b) i p.accepted p.formed in (
         rw (p.whole, q) d.number,
         d.state.bytes ∙ ap (λ (x : Stepped). encode_state x.state) (sym q) ∙ sym (step_bytes_encode t b i y p.whole),

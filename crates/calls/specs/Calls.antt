@@ -1,9 +1,11 @@
 -- The calls over lent bytes: the number that each answers, and the bytes that it leaves. t is a table, b a state's buffer, each as it was lent.
 use Rattle.std.specs.Prelude.{ℕ, List, map, ◌++◌, Bool, cond, length, take, drop, replicate, leb, eqb}
 use Rattle.program.specs.Table.{work_limit, number_of}
+use Rattle.program.specs.Refusal.{told}
 use Rattle.rules.specs.declared.answer.Stepped.{Stepped}
 use Rattle.rules.specs.State.{answer_number}
 use Rattle.rules.specs.Steps.{base, start, step, ready, awaited_number, awaited_count, registrations, registrations_number}
+use Rattle.rules.specs.Steps.{ready_set as members}
 use Rattle.rules.specs.Runs.{is_accepted, run, answers, awaiteds}
 use Rattle.encoding.specs.Bytes.{encode_each}
 use Rattle.encoding.specs.Encode.{encode_state}
@@ -55,11 +57,11 @@ step_bytes t b i = cond (encodes b) (bytes_after (step base t (state_of b) i) b)
 
 -- 0 or 1 to 13; 13 for bytes that encode no state
 unfoldable pub ready_number : List ℕ → List ℕ → ℕ
-ready_number t b = cond (encodes b) (ready base t (state_of b)).number (unfit_number t)
+ready_number t b = cond (encodes b) (told (ready base t (state_of b))) (unfit_number t)
 
 -- The set of a refused call is 0.
 unfoldable pub ready_set : List ℕ → List ℕ → ℕ
-ready_set t b = cond (encodes b) (ready base t (state_of b)).set 0
+ready_set t b = cond (encodes b) (members (ready base t (state_of b))) 0
 
 -- AWAITED: how many activities activity i waits for
 

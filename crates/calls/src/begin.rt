@@ -4,7 +4,6 @@ ghost use Rattle.rules.specs.State.{zero_state};
 ghost use Rattle.rules.specs.Steps.{start_state};
 ghost use Rattle.encoding.specs.Encode.{encode_state};
 
-use encoding::numbers::put_zeros;
 use fields::activities::put_depth;
 use fields::counts::put_activities;
 
@@ -13,7 +12,7 @@ pub fn put_none(state: &mut [u8])
     ensures { state.new ≡ cond (eqb (length state.old) 13776) (encode_state zero_state) state.old }
 {
     if state.len() == 13776 {
-        put_zeros(state);
+        state.fill(0);
         state[0] = 1;
     }
 }

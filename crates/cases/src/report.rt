@@ -1,5 +1,5 @@
 // A case run, and what came.
-use rules::answer::Completion;
+use program::refusal::Refusal;
 use rules::state::State;
 use std::io;
 
@@ -11,10 +11,10 @@ fn field(rt: &impl Print, word: &str, number: u64) -> io::Result<()> {
 // Writes how many calls and steps there were, the ready set (0 where all have ended), the activities and clocks made, and main's hand.
 fn show(rt: &impl Print, table: &[u8], s: State, calls: usize) -> io::Result<()> {
     let main = s.acts[0];
-    let ready = machine::ready(table, s);
+    let ready = machine::ready(table, s).unwrap_or(0);
     field(rt, ": calls ", calls as u64)?;
     field(rt, " taken ", s.steps as u64)?;
-    field(rt, " ready ", ready.set)?;
+    field(rt, " ready ", ready)?;
     field(rt, " activities ", s.activities as u64)?;
     field(rt, " clocks ", s.clocks as u64)?;
     field(rt, " hand ", main.register as u64)
@@ -29,15 +29,11 @@ pub fn report(
     answers: &mut [u8],
 ) -> io::Result<()> {
     let ran = machine::run(table, order, answers);
-    let completion = ran.completion;
     print!(rt; "{name}")?;
-    match completion {
-        Completion::Done => {
-            let state = ran.state;
-            show(rt, table, state, order.len())?;
-        }
-        Completion::Refused(number) => field(rt, ": table ", number as u64)?,
-        Completion::Short => print!(rt; ": too few answers")?,
+    match ran.completion {
+        Ok(()) => show(rt, table, ran.state, order.len())?,
+        Err(Refusal::Buffer) => print!(rt; ": too few answers")?,
+        Err(refusal) => field(rt, ": table ", refusal.number() as u64)?,
     }
     println!(rt; "")
 }

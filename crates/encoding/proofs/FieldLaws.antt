@@ -48,6 +48,10 @@ put {l} {p} {n} {at} k m e x u h j w v =
           ∙ rw (take_at e (drop m (drop at l)) k o, u.done, v);
     }
 
+-- the same, where the part is as long as it says
+pub put_as : {l p : List ℕ} {n at : ℕ} (k : ℕ) (e x : List ℕ) → Upto l n at p → at + k ≤ n → length e ≡ length (part l at k) → e ≡ x → Upto (put_mid at k l e) n (at + k) (p ++ x)
+put_as k e x u h w v = put k k e x u h refl w v
+
 -- the same, where what is written goes by the part's length
 pub put_of : {l p : List ℕ} {n at : ℕ} (k : ℕ) (g : ℕ → List ℕ) (e : List ℕ) → Upto l n at p → at + k ≤ n → length e ≡ length (part l at k) → e ≡ g (length (part l at k)) → Upto (put_mid at k l e) n (at + k) (p ++ g k)
 put_of {l} {p} {n} {at} k g e u h w v =

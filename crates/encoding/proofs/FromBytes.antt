@@ -5,7 +5,7 @@ use mathlib.Core.List.{List}
 use mathlib.Core.Bool.{Bool, true}
 use mathlib.Core.Path.{◌≡◌, refl, sym}
 use lib.ListN.{length}
-use Rattle.encoding.specs.Bytes.{bytes_of, number_of, part, byte_at, encode_each, parts_at, parts_pass}
+use Rattle.encoding.specs.Bytes.{bytes_of, number_of, part, byte_at, untested, encode_each, parts_at, parts_pass}
 use Rattle.encoding.specs.Encode.{encode_frame, encode_hold, encode_activity, encode_accumulator, encode_state}
 use Rattle.encoding.specs.Decode.{frame_at, hold_at, activity_at, accumulator_at, state_of, frame_encodes, hold_encodes, activity_encodes, accumulator_encodes, fields_encode}
 use Rattle.program.proofs.Basic.{Bytes}
@@ -15,7 +15,6 @@ use Rattle.encoding.proofs.PartLaws.{parts_pass_all}
 use Rattle.encoding.proofs.RoundLaws.{Back, each_back}
 use Rattle.encoding.proofs.EnumLaws.{registration_back, operator_back, status_back}
 use Rattle.encoding.proofs.Passed.{hold_passes, accumulator_passes_lem, activity_passes_lem, state_passes}
-use Rattle.encoding.proofs.FromState.{untested}
 
 -- n parts of k bytes each that stand from a place on
 parts_back : {A : Type 0} {e : A → List ℕ} {f : List ℕ → A} {p : List ℕ → Bool} {k : ℕ} (n at : ℕ) (b : List ℕ) → Back e f p k → Bytes b → at + n * k ≤ length b

@@ -2,7 +2,6 @@
 use Prim.Native.Nat.{ℕ, ◌+◌, ◌<◌, ◌^◌}
 use native.Mathlib.Omega.{arith}
 use mathlib.Core.List.{List, ◌++◌, append_assoc}
-use mathlib.Core.Bool.{Bool, true}
 use mathlib.Core.Path.{◌≡◌, refl, sym, ◌∙◌}
 use lib.ListN.{length, take, drop, length-append}
 use lib.Seq.{take_at, drop_at, drop-drop, take-length}
@@ -14,7 +13,7 @@ use Rattle.rules.specs.declared.state.Accumulator.{Accumulator}
 use Rattle.rules.specs.declared.state.State.{State}
 use Rattle.rules.specs.State.{no_frame, no_hold, no_accumulator, absent}
 use Rattle.rules.proofs.Sized.{SizedActivity, Sized}
-use Rattle.encoding.specs.Bytes.{bytes_of, number_of, all_zero, encode_each}
+use Rattle.encoding.specs.Bytes.{bytes_of, number_of, all_zero, untested, encode_each}
 use Rattle.encoding.specs.Encode.{encode_frame, encode_hold, encode_activity, encode_accumulator, encode_state}
 use Rattle.encoding.specs.Decode.{limit, frame_at, hold_at, activity_at, accumulator_at, state_of, frame_encodes, hold_encodes, activity_encodes, accumulator_encodes, fields_encode}
 use Rattle.encoding.proofs.NumberLaws.{bytes_of_length, number_of_bytes}
@@ -71,10 +70,6 @@ activity_round {a} z h =
       back = rw (e, status_there a.status, t.0, t.1, t.2, hs.back, fs.back);
       passes = rw (status_passes_lem a.status, t.1, t.2, hs.passes, fs.passes);
     }
-
--- a cell's four bytes are tested by nothing
-abbrev pub untested : List ℕ → Bool
-untested b = true
 
 -- a cell
 cell_round : (x : ℕ) → x < 2 ^ 32 → Round (bytes_of 4) number_of untested 4 x

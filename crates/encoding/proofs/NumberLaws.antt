@@ -2,14 +2,17 @@
 use Prim.Native.Nat.{ℕ, zero, suc, ◌+◌, ◌-◌, ◌*◌, ◌/◌, ◌%◌, ◌^◌, ◌≤◌, ◌<◌}
 use native.Mathlib.Omega.{arith}
 use native.Mathlib.Nat.{not-suc-le-zero, pow-succ', le_of_suc-le-suc}
-use native.Mathlib.Numerals.{add-one}
-use mathlib.Core.List.{List, [], ◌∷◌, ◌++◌, append-nil, append_assoc}
+use mathlib.Core.List.{List, [], ◌∷◌, ◌++◌}
 use mathlib.Core.Bool.{true, ◌&&◌}
 use mathlib.Core.Path.{◌≡◌, refl, sym, ap, ◌∙◌}
-use lib.ListN.{length, get_or, take, drop, set, replicate}
+use lib.ListN.{length, get_or, set, replicate, length-append, length-replicate}
+use borrow.Rule.Slice.PartMut.{put_mid}
 use lib.Dec.{eqb}
-use lib.Seq.{take-suc, take-suc-set, take_all, drop-cons}
 use borrow.Author.Tests.{eqb-true}
+use Rattle.std.specs.Int.{w16, w32, from_le_bytes, to_le_bytes}
+use Rattle.std.specs.List.{list_all}
+use Rattle.std.proofs.lemmas.Nat.{le_bytes_2, le_bytes_4}
+use Rattle.std.proofs.lemmas.List.{drop-replicate}
 use Rattle.program.proofs.Basic.{Bytes}
 use Rattle.rules.proofs.Tests.{and_true}
 use Rattle.encoding.specs.Bytes.{bytes_of, number_of, all_zero}
@@ -62,42 +65,69 @@ bytes_of_number (x ∷ b) h =
     let high : (x + 256 * number_of b) / 256 ≡ number_of b = omega arith in
     rw (low, high, bytes_of_number b (λ i. h (suc i)))
 
--- THE LOOPS
+-- THE BYTES OF A WIDTH
 
--- one byte more at the lower end
-pub number_more : (b : List ℕ) (i : ℕ) → 0 < i → i ≤ length b → get_or b (i - 1) 0 + 256 * number_of (drop i b) ≡ number_of (drop (i - 1) b)
+-- the number of one byte
+pub number_of_one : (b : List ℕ) → length b ≡ 1 → get_or b 0 0 ≡ number_of b
 unfolding number_of
-number_more b zero p h = absurd (not-suc-le-zero p)
-number_more b (suc i) p h =
-    let e : suc i - 1 ≡ i = omega arith in
-    rw (e, drop-cons b i 0 h)
+number_of_one [] h = absurd (omega arith)
+number_of_one (p ∷ []) h = omega arith
+number_of_one (p ∷ q ∷ b) h = absurd (omega arith)
 
--- one byte more is written
-pub bytes_more : (l : List ℕ) (i n x : ℕ) → i < length l → length l ≡ n → take (i + 1) (set l i (x % 256)) ++ bytes_of (n - (i + 1)) (x / 256) ≡ take i l ++ bytes_of (n - i) x
+-- and the byte of a number
+pub one_byte : (b : List ℕ) (x : ℕ) → length b ≡ 1 → x < 256 → set b 0 x ≡ bytes_of 1 x
 unfolding bytes_of
-bytes_more l i n x h e =
-    let q : n - i ≡ suc (n - (i + 1)) = omega arith in
-    rw (q, add-one i, take-suc-set l i (x % 256), append_assoc)
+one_byte [] x h l = absurd (omega arith)
+one_byte (p ∷ []) x h l = let e : x % 256 ≡ x = omega arith in rw e
+one_byte (p ∷ q ∷ b) x h l = absurd (omega arith)
 
--- all bytes are written
-pub bytes_done : {r : List ℕ} (l : List ℕ) (i n x : ℕ) → length l ≤ i → length l ≡ n → take i l ++ bytes_of (n - i) x ≡ r → l ≡ r
-unfolding bytes_of
-bytes_done l i n x h e w =
-    let q : n - i ≡ 0 = omega arith in
-    sym (append-nil l) ∙ rw (take_all i l h, q) at w
+-- std's number of four bytes
+pub number_of_four : (b : List ℕ) → length b ≡ 4 → from_le_bytes w32 b ≡ number_of b
+unfolding number_of
+number_of_four [] h = absurd (omega arith)
+number_of_four (p ∷ []) h = absurd (omega arith)
+number_of_four (p ∷ q ∷ []) h = absurd (omega arith)
+number_of_four (p ∷ q ∷ r ∷ []) h = absurd (omega arith)
+number_of_four (p ∷ q ∷ r ∷ s ∷ []) h = omega arith
+number_of_four (p ∷ q ∷ r ∷ s ∷ t ∷ b) h = absurd (omega arith)
 
--- one byte more is copied
-pub copy_more : (a b : List ℕ) (i n : ℕ) → take i a ≡ take i b → length a ≡ n → length b ≡ n → i < n → take (i + 1) (set a i (get_or b i 0)) ≡ take (i + 1) b
-copy_more a b i n e h k j = rw (add-one, take-suc-set a i (get_or b i 0) (rw h j), take-suc b i 0 (rw k j), e)
+-- and of two
+pub number_of_two : (b : List ℕ) → length b ≡ 2 → from_le_bytes w16 b ≡ number_of b
+unfolding number_of
+number_of_two [] h = absurd (omega arith)
+number_of_two (p ∷ []) h = absurd (omega arith)
+number_of_two (p ∷ q ∷ []) h = omega arith
+number_of_two (p ∷ q ∷ r ∷ b) h = absurd (omega arith)
 
--- all bytes are copied
-pub copy_done : (a b : List ℕ) (i n : ℕ) → take i a ≡ take i b → length a ≡ n → length b ≡ n → n ≤ i → a ≡ b
-copy_done a b i n e h k j = sym (take_all i a (omega arith)) ∙ e ∙ take_all i b (omega arith)
+-- std's four bytes of a number
+pub four_bytes : (x : ℕ) → x < 2 ^ 32 → to_le_bytes w32 x ≡ bytes_of 4 x
+four_bytes x h = le_bytes_4 (bytes_of 4 x) x (bytes_of_length 4 x) (bytes_of_bytes 4 x) (sym (number_of_four (bytes_of 4 x) (bytes_of_length 4 x) ∙ number_of_bytes 4 x (omega arith)))
 
--- one reserved byte more
-pub zeros_more : (b : List ℕ) (i : ℕ) → i < length b → all_zero (drop i b) ≡ eqb (get_or b i 0) 0 && all_zero (drop (i + 1) b)
+-- and two
+pub two_bytes : (x : ℕ) → x < 2 ^ 16 → to_le_bytes w16 x ≡ bytes_of 2 x
+two_bytes x h = le_bytes_2 (bytes_of 2 x) x (bytes_of_length 2 x) (bytes_of_bytes 2 x) (sym (number_of_two (bytes_of 2 x) (bytes_of_length 2 x) ∙ number_of_bytes 2 x (omega arith)))
+
+-- zeros behind bytes add nothing to their number
+number_of-zeros : (b : List ℕ) (k : ℕ) → number_of (b ++ replicate k 0) ≡ number_of b
+unfolding number_of
+number_of-zeros [] zero = refl
+number_of-zeros [] (suc k) = rw (number_of-zeros [] k)
+number_of-zeros (x ∷ b) k = rw (number_of-zeros b k)
+
+-- at most four bytes, copied over four zeros
+pub number_of_padded : (b e : List ℕ) (m : ℕ) → e ≡ b → m ≡ length b → length b ≤ 4 → from_le_bytes w32 (put_mid 0 m (replicate 4 0) e) ≡ number_of b
+number_of_padded b e m v w h =
+    let p : put_mid 0 m (replicate 4 0) e ≡ b ++ replicate (4 - length b) 0 = rw (v, w, drop-replicate {X = ℕ} (length b) 4 0) in
+    let l : length (b ++ replicate (4 - length b) 0) ≡ 4 = rw (length-append, length-replicate) (omega arith) in
+    rw p (number_of_four (b ++ replicate (4 - length b) 0) l ∙ number_of-zeros b (4 - length b))
+
+-- RESERVED BYTES
+
+-- reserved bytes, as the library's method reads them
+pub all_zero-list_all : (b : List ℕ) → list_all (λ x. eqb x 0) b ≡ all_zero b
 unfolding all_zero
-zeros_more b i h = rw (add-one, drop-cons b i 0 h)
+all_zero-list_all [] = refl
+all_zero-list_all (x ∷ b) = ap (λ t. eqb x 0 && t) (all_zero-list_all b)
 
 -- reserved bytes are the zeros
 pub zeros : (b : List ℕ) → all_zero b ≡ true → replicate (length b) 0 ≡ b

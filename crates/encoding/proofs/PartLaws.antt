@@ -11,7 +11,7 @@ use lib.Seq.{take-suc-set, take_all, drop-drop}
 use borrow.Rule.Slice.PartMut.{put_mid}
 use Rattle.rules.proofs.Tests.{and_true}
 use Rattle.encoding.specs.Bytes.{part, encode_each, parts_at, parts_pass}
-use Rattle.encoding.proofs.FieldLaws.{sized, Upto, none_yet, put, all}
+use Rattle.encoding.proofs.FieldLaws.{Upto, none_yet, put, all}
 
 -- THE PART OF A TURN
 
@@ -22,10 +22,6 @@ turn k i = add-sub_cancel_left (k * i) k
 -- lies within all parts
 pub turn_fits : {i n : ℕ} (k : ℕ) → i < n → k * i + k ≤ k * n
 turn_fits {i} k h = rw (← mul-suc) (mul-le-mul_left k h)
-
--- and is as long as one
-pub turn_sized : (b : List ℕ) (k i n : ℕ) → length b ≡ k * n → i < n → length (take (k * i + k - k * i) (drop (k * i) b)) ≡ k
-turn_sized b k i n h j = sized b (k * i) k _ (turn k i) (rw h (turn_fits k j))
 
 -- ONE PART MORE
 
@@ -90,10 +86,6 @@ pub record Passing (p : List ℕ → Bool) (b : List ℕ) (k n i : ℕ) : Type 0
   pub within : i ≤ n
   pub left : parts_pass k (n - i) p (drop (k * i) b) ≡ parts_pass k n p b
 
--- all parts decide
-pub pass_none : (p : List ℕ → Bool) (b : List ℕ) (k n : ℕ) → Passing p b k n 0
-pass_none p b k n = let q : n - 0 ≡ n = omega arith in record { within = omega arith; left = rw (q, mul-zero) }
-
 -- the part of a turn and those after it
 pass_turned : {p : List ℕ → Bool} {b : List ℕ} {k n i : ℕ} {t : Bool} → Passing p b k n i → i < n → t ≡ p (take (k * i + k - k * i) (drop (k * i) b))
     → t && parts_pass k (n - (i + 1)) p (drop (k * (i + 1)) b) ≡ parts_pass k n p b
@@ -141,33 +133,9 @@ read_more {f = f} {b = b} {a = a} {k = k} {i = i} v l j w =
       done = rw (add-one, take-suc-set a i v (rw l.size j), l.done, parts_at_more k i f b, w, turn k i);
     }
 
--- all are read
-pub read_done : {A : Type 0} {f : List ℕ → A} {b : List ℕ} {a : List A} {k n i : ℕ} → Reads f b k n i a → n ≤ i → a ≡ parts_at k n f b
-read_done {a = a} {n = n} {i = i} l h =
-    let j : i ≡ n = omega (arith, l.within) in
-    sym (take_all i a (omega (arith, l.size))) ∙ l.done ∙ rw j
-
 -- THE LOOP THAT WRITES
 
--- behind bytes p and the first i entries, one entry more is written
-one_more : {A : Type 0} (p : List ℕ) (f : A → List ℕ) (xs : List A) (k m n i at to : ℕ) (d : A) (l e : List ℕ) → Upto l n at (p ++ encode_each f (take i xs)) → i < length xs → at + k ≤ n → m ≡ k
-    → to ≡ at + k → length e ≡ length (take m (drop at l)) → e ≡ f (get_or xs i d) → Upto (put_mid at m l e) n to (p ++ encode_each f (take (i + 1) xs))
-one_more p f xs k m n i at to d l e u h o j z w v =
-    let r = put k m e (f (get_or xs i d)) u o j w v in
-    record {
-      full = r.full;
-      done =
-          ap (λ (x : ℕ). take x (put_mid at m l e)) z
-          ∙ r.done
-          ∙ append_assoc p (encode_each f (take i xs)) (f (get_or xs i d))
-          ∙ ap (λ (x : List ℕ). p ++ x) (sym (encode_each_more f xs i d h) ∙ rw add-one);
-    }
-
--- all are written
-all_done : {A : Type 0} (p : List ℕ) (f : A → List ℕ) (xs : List A) (n i : ℕ) (l : List ℕ) → Upto l n n (p ++ encode_each f (take i xs)) → length xs ≤ i → l ≡ p ++ encode_each f xs
-all_done p f xs n i l u h = all u ∙ rw (take_all i xs h)
-
--- of the entries alone, the first i are written
+-- the first i entries are written
 abbrev pub Each : {A : Type 0} → (A → List ℕ) → List A → ℕ → ℕ → ℕ → List ℕ → Type 0
 Each f xs k n i l = (i ≤ n) × Upto l (k * n) (k * i) (encode_each f (take i xs))
 
@@ -178,34 +146,20 @@ write_none f xs k n l h = (omega arith, rw mul-zero (none_yet l (k * n) h))
 pub write_more : {A : Type 0} (f : A → List ℕ) (xs : List A) (k n i : ℕ) (d : A) (l e : List ℕ) → Each f xs k n i l → length xs ≡ n → i < n
     → length e ≡ length (take (k * i + k - k * i) (drop (k * i) l)) → e ≡ f (get_or xs i d) → Each f xs k n (i + 1) (put_mid (k * i) (k * i + k - k * i) l e)
 write_more f xs k n i d l e u h j w v =
-    (omega arith, one_more [] f xs k (k * i + k - k * i) (k * n) i (k * i) (k * (i + 1)) d l e u.1 (omega arith) (turn_fits k j) (turn k i) (rw (add-one, mul-suc)) w v)
+    let r = put k (k * i + k - k * i) e (f (get_or xs i d)) u.1 (turn_fits k j) (turn k i) w v in (
+      omega arith,
+      record {
+        full = r.full;
+        done =
+            ap (λ (x : ℕ). take x (put_mid (k * i) (k * i + k - k * i) l e)) (rw (add-one, mul-suc))
+            ∙ r.done
+            ∙ sym (encode_each_more f xs i d (omega arith))
+            ∙ rw add-one;
+      },
+    )
 
 pub write_done : {A : Type 0} (f : A → List ℕ) (xs : List A) (k n i : ℕ) (l : List ℕ) → Each f xs k n i l → length xs ≡ n → n ≤ i → l ≡ encode_each f xs
 write_done f xs k n i l u h j =
     let q : i ≡ n = omega arith in
     let v : Upto l (k * n) (k * n) (encode_each f (take n xs)) = rw q at u.1 in
-    all_done [] f xs (k * n) n l v (omega arith)
-
--- of the entries behind h bytes p, the first i are written
-abbrev pub Behind : {A : Type 0} → ℕ → List ℕ → (A → List ℕ) → List A → ℕ → ℕ → ℕ → List ℕ → Type 0
-Behind h p f xs k n i l = (i ≤ n) × Upto l (h + k * n) (h + k * i) (p ++ encode_each f (take i xs))
-
-pub behind_none : {A : Type 0} (h : ℕ) (p : List ℕ) (f : A → List ℕ) (xs : List A) (k n : ℕ) (l : List ℕ) → Upto l (h + k * n) h p → Behind h p f xs k n 0 l
-unfolding encode_each
-behind_none h p f xs k n l u =
-    let z : h + k * 0 ≡ h = rw mul-zero (omega arith) in
-    (omega arith, record { full = u.full; done = ap (λ (m : ℕ). take m l) z ∙ u.done ∙ sym (append-nil p) })
-
-pub behind_more : {A : Type 0} (h : ℕ) (p : List ℕ) (f : A → List ℕ) (xs : List A) (k n i : ℕ) (d : A) (l e : List ℕ) → Behind h p f xs k n i l → length xs ≡ n → i < n
-    → length e ≡ length (take (h + k * i + k - (h + k * i)) (drop (h + k * i) l)) → e ≡ f (get_or xs i d)
-    → Behind h p f xs k n (i + 1) (put_mid (h + k * i) (h + k * i + k - (h + k * i)) l e)
-behind_more h p f xs k n i d l e u o j w v =
-    let t : k * i + k ≤ k * n = turn_fits k j in
-    let z : h + k * (i + 1) ≡ h + k * i + k = rw (add-one, mul-suc) (omega arith) in
-    (omega arith, one_more p f xs k (h + k * i + k - (h + k * i)) (h + k * n) i (h + k * i) (h + k * (i + 1)) d l e u.1 (omega arith) (omega arith) (omega arith) z w v)
-
-pub behind_done : {A : Type 0} (h : ℕ) (p : List ℕ) (f : A → List ℕ) (xs : List A) (k n i : ℕ) (l : List ℕ) → Behind h p f xs k n i l → length xs ≡ n → n ≤ i → l ≡ p ++ encode_each f xs
-behind_done h p f xs k n i l u o j =
-    let q : i ≡ n = omega arith in
-    let v : Upto l (h + k * n) (h + k * n) (p ++ encode_each f (take n xs)) = rw q at u.1 in
-    all_done p f xs (h + k * n) n l v (omega arith)
+    all v ∙ rw (take_all n xs (omega arith))

@@ -7,7 +7,7 @@ use mathlib.Core.Path.{◌≡◌, refl}
 use lib.ListN.{length, get_or}
 use Rattle.rules.specs.State.{no_frame, no_hold, no_accumulator, absent}
 use Rattle.rules.proofs.Sized.{SizedActivity, Sized}
-use Rattle.encoding.specs.Bytes.{number_of, part, parts_at, parts_pass}
+use Rattle.encoding.specs.Bytes.{number_of, part, untested, parts_at, parts_pass}
 use Rattle.encoding.specs.Decode.{frame_at, hold_at, activity_at, accumulator_at, state_of, frame_encodes, hold_encodes, activity_encodes, accumulator_encodes, fields_encode}
 use Rattle.program.proofs.Basic.{Bytes}
 use Rattle.encoding.proofs.NumberLaws.{number_below}
@@ -15,7 +15,6 @@ use Rattle.encoding.proofs.FieldLaws.{sized, part_bytes}
 use Rattle.encoding.proofs.PartLaws.{turn_fits, parts_at_at, parts_at_length, parts_pass_at, parts_pass_all}
 use Rattle.encoding.proofs.Passed.{hold_passes, activity_passes_lem, state_passes}
 use Rattle.encoding.proofs.Fits.{FitsFrame, FitsHold, FitsAccumulator, FitsActivity, FitsState}
-use Rattle.encoding.proofs.FromState.{untested}
 
 -- what holds of the entry of each part that passes holds of each entry
 parts_fit : {A : Type 0} (P : A → Type 0) (k n : ℕ) (f : List ℕ → A) (p : List ℕ → Bool) (b : List ℕ) (d : A) → length b ≡ k * n → Bytes b → parts_pass k n p b ≡ true

@@ -24,6 +24,10 @@ unfoldable pub all_zero : List ℕ → Bool
 all_zero [] = true
 all_zero (x ∷ b) = eqb x 0 && all_zero b
 
+-- any bytes pass
+abbrev pub untested : List ℕ → Bool
+untested b = true
+
 -- LISTS OF PARTS
 
 -- each entry's bytes, one after the other

@@ -1,5 +1,5 @@
 -- The state that bytes encode, by the offsets of docs/STATE-BYTES.md, and whether they encode one.
-use Rattle.std.specs.Prelude.{ℕ, List, [], ◌∷◌, Bool, true, false, cond, ◌&&◌, length, get_or, leb, eqb}
+use Rattle.std.specs.Prelude.{ℕ, List, [], ◌∷◌, Bool, cond, ◌&&◌, length, get_or, leb, eqb, Option, Some, None}
 use Rattle.rules.specs.declared.state.Status.{Status}
 use Rattle.rules.specs.declared.state.Status.TheVariants.{Running, AtBarrier, Ended, Faulted}
 use Rattle.rules.specs.declared.state.Registration.{Registration}
@@ -9,8 +9,7 @@ use Rattle.rules.specs.declared.state.Hold.{Hold}
 use Rattle.rules.specs.declared.state.Activity.{Activity}
 use Rattle.rules.specs.declared.state.Accumulator.{Accumulator}
 use Rattle.rules.specs.declared.state.State.{State}
-use Rattle.rules.specs.State.{fault_of, operator_of, zero_state}
-use Rattle.encoding.specs.declared.Decoded.{Decoded}
+use Rattle.rules.specs.State.{fault_of, operator_of}
 use Rattle.encoding.specs.Bytes.{number_of, part, byte_at, all_zero, parts_at, parts_pass}
 use Rattle.encoding.specs.Encode.{version}
 
@@ -102,6 +101,6 @@ fields_encode b =
 unfoldable pub encodes : List ℕ → Bool
 encodes b = eqb (length b) 13776 && fields_encode b
 
--- what reading bytes answers: their state, or the state of zeros where they encode none
-unfoldable pub decoded_of : List ℕ → Decoded
-decoded_of b = cond (encodes b) (record { ok = true; state = state_of b }) (record { ok = false; state = zero_state })
+-- what reading bytes answers: their state, where they encode one
+unfoldable pub decoded_of : List ℕ → Option State
+decoded_of b = cond (encodes b) (Some (state_of b)) None

@@ -7,40 +7,22 @@ ghost use Rattle.encoding.specs.Decode.{decoded_of};
 
 use rules::state::State;
 
-pub mod numbers; // numbers.rt: numbers of more than one byte, and reserved bytes
+pub mod numbers; // numbers.rt: numbers of one, two and four bytes, and reserved bytes
+pub mod part; // part.rt: a kind of part, and the loops over the parts that stand one after the other
 pub mod frames; // frames.rt: the bodies on a stack
 pub mod holds; // holds.rt: the clock names
 pub mod accumulators; // accumulators.rt: the accumulators
 pub mod activities; // activities.rt: the activities
 mod fields; // fields.rt: the fields of a state
 
-// What bytes encode: a state, or none and then the state of zeros.
-#[derive(Clone, Copy)]
-pub struct Decoded {
-    pub ok: bool,
-    pub state: State,
-}
-
-// The state that bytes encode.
-pub fn decode(bytes: &[u8]) -> Decoded
+// The state that bytes encode, if they encode one.
+pub fn decode(bytes: &[u8]) -> Option<State>
     ensures { result ≡ decoded_of bytes.now }
 {
-    if bytes.len() != 13776 {
-        return Decoded {
-            ok: false,
-            state: parts::empty::zero_state(),
-        };
-    }
-    if fields::fields_encode(bytes) {
-        Decoded {
-            ok: true,
-            state: fields::state_at(bytes),
-        }
+    if bytes.len() == 13776 && fields::fields_encode(bytes) {
+        Some(fields::state_at(bytes))
     } else {
-        Decoded {
-            ok: false,
-            state: parts::empty::zero_state(),
-        }
+        None
     }
 }
 

@@ -1,14 +1,15 @@
 -- Laws of bytes that are all 0: a part that is all 0 is exactly one that encodes an entry not in use.
-use Prim.Native.Nat.{ℕ, zero, suc, ◌+◌, ◌*◌, ◌≤◌, ◌<◌, suc-le-suc}
+use Prim.Native.Nat.{ℕ, max, zero, suc, ◌+◌, ◌*◌, ◌<◌, suc-le-suc}
 use native.Mathlib.Omega.{arith}
 use native.Mathlib.Nat.{mul-suc, mul-zero, add_comm}
 use mathlib.Core.List.{List, [], ◌∷◌, ◌++◌}
 use mathlib.Core.Bool.{Bool, true, false, ◌&&◌}
 use mathlib.Core.Path.{◌≡◌, refl, sym, ap, ◌∙◌}
-use lib.ListN.{length, get_or, take, drop, replicate, take-append-drop, length-drop, drop_of_length-le}
+use lib.ListN.{length, get_or, take, drop, replicate, take-append-drop, length-drop}
 use lib.Seq.{take-suc, take_all, take-add, drop-drop}
 use lib.Dec.{eqb}
-use borrow.Author.Tests.{eqb-true, ne_eqb}
+use borrow.Author.Tests.{ne_eqb}
+use Rattle.std.specs.List.{fold}
 use Rattle.rules.specs.declared.state.Status.{Status}
 use Rattle.rules.specs.declared.state.Status.TheVariants.{Running, AtBarrier, Ended, Faulted}
 use Rattle.rules.specs.Search.{all_below}
@@ -19,7 +20,7 @@ use Rattle.rules.proofs.Search.{all_below_at, both}
 use Rattle.encoding.specs.Bytes.{number_of, part, byte_at, all_zero, parts_at, parts_pass}
 use Rattle.encoding.specs.Encode.{status_byte, fault_byte}
 use Rattle.encoding.specs.Decode.{status_of, status_passes, frame_at, hold_at, activity_at, accumulator_at, frame_encodes, hold_encodes, activity_encodes, accumulator_encodes}
-use Rattle.encoding.proofs.NumberLaws.{zeros, zeros_more}
+use Rattle.encoding.proofs.NumberLaws.{zeros}
 use Rattle.encoding.proofs.FieldLaws.{sized}
 use Rattle.encoding.proofs.PartLaws.{parts_at_at, parts_pass_at, turn_fits}
 use Rattle.encoding.proofs.EnumLaws.{registration_back, operator_back, status_back}
@@ -82,34 +83,25 @@ zero_parts k (suc n) b l h =
     let rest = zero_parts k n (drop k b) (rw length-drop (omega arith)) (λ i j. rw (drop-drop, add_comm k (k * i), ← mul-suc) (h (suc i) (suc-le-suc j))) in
     rw take-append-drop at (zero_append (take k b) (drop k b) ∙ and_intro (all_zero (take k b)) _ first rest)
 
--- THE LOOP THAT TESTS
+-- THE GREATEST BYTE
 
--- one byte more, greater than the greatest so far
-pub raised : (m x : ℕ) (z : Bool) → m < x → eqb x 0 && z ≡ eqb m 0 && (eqb x 0 && z)
-raised m x z h = rw (ne_eqb x 0 (λ e. omega arith)) (by (eqb m 0))
-  where
-    by : (q : Bool) → false ≡ q && false
-    by true = refl
-    by false = refl
+-- the greater of two is 0 where both are
+both_zero : (m x : ℕ) → eqb (max m x) 0 ≡ eqb m 0 && eqb x 0
+both_zero zero zero = refl
+both_zero zero (suc x) = rw (ne_eqb (max 0 (suc x)) 0 (λ e. omega arith), ne_eqb (suc x) 0 (λ e. omega arith))
+both_zero (suc m) x = rw (ne_eqb (max (suc m) x) 0 (λ e. omega arith), ne_eqb (suc m) 0 (λ e. omega arith))
 
--- or none that is greater
-pub kept : (m x : ℕ) (z : Bool) → x ≤ m → eqb m 0 && z ≡ eqb m 0 && (eqb x 0 && z)
-kept m x z h = by (eqb m 0) refl
-  where
-    by : (q : Bool) → eqb m 0 ≡ q → q && z ≡ q && (eqb x 0 && z)
-    by true e = let m0 = eqb-true m 0 e in let x0 : x ≡ 0 = omega arith in rw x0
-    by false e = refl
-
--- the bytes from one on
-pub turned : (b : List ℕ) (i m : ℕ) → i < length b → eqb m 0 && (eqb (get_or b i 0) 0 && all_zero (drop (i + 1) b)) ≡ eqb m 0 && all_zero (drop i b)
-turned b i m h = ap (λ q. eqb m 0 && q) (sym (zeros_more b i h))
-
--- no byte is left
-pub ended : (b : List ℕ) (i m : ℕ) → length b ≤ i → eqb m 0 ≡ eqb m 0 && all_zero (drop i b)
+-- the greatest of bytes is 0 where each is
+pub greatest : (m : ℕ) (b : List ℕ) → eqb (fold max m b) 0 ≡ eqb m 0 && all_zero b
 unfolding all_zero
-ended b i m h = rw (drop_of_length-le b h) (by (eqb m 0))
+greatest m [] = by (eqb m 0)
   where
     by : (q : Bool) → q ≡ q && true
+    by true = refl
+    by false = refl
+greatest m (x ∷ b) = greatest (max m x) b ∙ rw (both_zero m x) (by (eqb m 0))
+  where
+    by : (q : Bool) → (q && eqb x 0) && all_zero b ≡ q && (eqb x 0 && all_zero b)
     by true = refl
     by false = refl
 

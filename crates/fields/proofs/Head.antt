@@ -7,13 +7,15 @@ use lib.ListN.{length, get_or, set, replicate, length-append, length-set}
 use borrow.Rule.Slice.PartMut.{put_mid}
 use Rattle.rules.specs.declared.state.Accumulator.{Accumulator}
 use Rattle.rules.specs.declared.state.State.{State}
-use Rattle.rules.specs.State.{operator_number, no_accumulator, accumulator}
+use Rattle.rules.specs.State.{no_accumulator, accumulator}
 use Rattle.rules.specs.Effects.{with_value}
 use Rattle.rules.proofs.Lists.{Stored, new, old, stored}
 use Rattle.encoding.specs.Bytes.{bytes_of, number_of, part, encode_each}
+use Rattle.encoding.specs.Decode.{accumulator_at}
 use Rattle.encoding.specs.Encode.{version, encode_accumulator, encode_activity, encode_state}
-use Rattle.fields.specs.Lent.{Fine, Lent, Gets, Puts, with_steps, with_acc, with_activities, with_clocks, with_accumulators, with_cell}
+use Rattle.fields.specs.Lent.{Fine, Lent, Gets, Written, with_steps, with_acc, with_activities, with_clocks, with_accumulators, with_cell}
 use Rattle.encoding.proofs.NumberLaws.{bytes_of_length, number_of_bytes}
+use Rattle.encoding.proofs.EnumLaws.{operator_there}
 use Rattle.fields.proofs.Within.{put_first, put_second, put_inside, part_first, part_second, part_inside, lent_back}
 use Rattle.fields.proofs.Stands.{accumulator_length, entries, state_head, state_head_length, fine_steps, lent_length, single}
 
@@ -23,7 +25,7 @@ pub steps_there : {b : List ℕ} {s : State} {r : ℕ} → Lent b s → Gets 2 b
 unfolding encode_state bytes_of
 steps_there {b} {s} l g = g.gets (lent_length l) (omega arith) ∙ rw l.bytes (number_of_bytes 2 s.steps l.fine.steps)
 
-pub steps_put : {b c : List ℕ} {s : State} {n : ℕ} → Lent b s → Puts 4 b c 4 n → n < 2 ^ 16 → Lent c (with_steps s n)
+pub steps_put : {b c : List ℕ} {s : State} {n : ℕ} → Lent b s → Written 4 b c 4 (bytes_of 4 n) → n < 2 ^ 16 → Lent c (with_steps s n)
 unfolding encode_state with_steps bytes_of
 steps_put {s = s} l p h = record { bytes = p.puts (lent_length l) (omega arith) ∙ rw l.bytes; fine = fine_steps l.fine h }
 
@@ -38,7 +40,7 @@ pub activities_there : {b : List ℕ} {s : State} {r : ℕ} → Lent b s → Get
 unfolding encode_state bytes_of
 activities_there {b} {s} l g = g.gets (lent_length l) (omega arith) ∙ rw l.bytes (single s.activities)
 
-pub activities_put : {b c : List ℕ} {s : State} {n : ℕ} → Lent b s → Puts 1 b c 1 n → n < 256 → Lent c (with_activities s n)
+pub activities_put : {b c : List ℕ} {s : State} {n : ℕ} → Lent b s → Written 1 b c 1 (bytes_of 1 n) → n < 256 → Lent c (with_activities s n)
 unfolding encode_state with_activities bytes_of
 activities_put {s = s} {n = n} l p h =
     let q : n % 256 ≡ n = omega arith in
@@ -51,7 +53,7 @@ pub clocks_there : {b : List ℕ} {s : State} {r : ℕ} → Lent b s → Gets 1 
 unfolding encode_state bytes_of
 clocks_there {b} {s} l g = g.gets (lent_length l) (omega arith) ∙ rw l.bytes (single s.clocks)
 
-pub clocks_put : {b c : List ℕ} {s : State} {n : ℕ} → Lent b s → Puts 1 b c 2 n → n < 256 → Lent c (with_clocks s n)
+pub clocks_put : {b c : List ℕ} {s : State} {n : ℕ} → Lent b s → Written 1 b c 2 (bytes_of 1 n) → n < 256 → Lent c (with_clocks s n)
 unfolding encode_state with_clocks bytes_of
 clocks_put {s = s} {n = n} l p h =
     let q : n % 256 ≡ n = omega arith in
@@ -64,7 +66,7 @@ pub accumulators_there : {b : List ℕ} {s : State} {r : ℕ} → Lent b s → G
 unfolding encode_state bytes_of
 accumulators_there {b} {s} l g = g.gets (lent_length l) (omega arith) ∙ rw l.bytes (single s.accumulators)
 
-pub accumulators_put : {b c : List ℕ} {s : State} {n : ℕ} → Lent b s → Puts 1 b c 3 n → n < 256 → Lent c (with_accumulators s n)
+pub accumulators_put : {b c : List ℕ} {s : State} {n : ℕ} → Lent b s → Written 1 b c 3 (bytes_of 1 n) → n < 256 → Lent c (with_accumulators s n)
 unfolding encode_state with_accumulators bytes_of
 accumulators_put {s = s} {n = n} l p h =
     let q : n % 256 ≡ n = omega arith in
@@ -147,7 +149,7 @@ module _ {b : List ℕ} {s : State} (l : Lent b s) {d : ℕ} (j : d < 16) where
       ∙ ap number_of (rw (q, l.bytes) (part_cell s l.fine d j))
       ∙ number_of_bytes 4 (get_or s.cells d 0) (l.fine.cells d)
 
-  pub cell_write : {c : List ℕ} {at v : ℕ} → Puts 4 b c at v → at ≡ 16 + 4 * d → v < 2 ^ 32 → Lent c (with_cell s d v)
+  pub cell_write : {c : List ℕ} {at v : ℕ} → Written 4 b c at (bytes_of 4 v) → at ≡ 16 + 4 * d → v < 2 ^ 32 → Lent c (with_cell s d v)
   cell_write {c} {at} {v} g e h =
       let q : at ≡ 16 + (4 * d + 0) = omega arith in
       record {
@@ -205,17 +207,21 @@ fine_acc {s} n c w h =
     go k (new e p) = rw p h
     go k (old p) = rw p (w.values k)
 
+acc_back : (c : Accumulator) → c.value < 2 ^ 32 → accumulator_at (part (encode_accumulator c) 0 24) ≡ c
+unfolding encode_accumulator accumulator_at bytes_of
+acc_back c w = rw (number_of_bytes 4 c.value w, operator_there c.operator)
+
 value_put : (c : Accumulator) (v : ℕ) → put_mid 0 4 (encode_accumulator c) (bytes_of 4 v) ≡ encode_accumulator (with_value c v)
 unfolding encode_accumulator bytes_of
 value_put c v = refl
 
 module _ {b : List ℕ} {s : State} (l : Lent b s) {n : ℕ} (j : n < 16) where
-  pub acc_number : {at r : ℕ} (x m : ℕ) → Gets m b at r → at ≡ 80 + 24 * n + x → x + m ≤ 24 → r ≡ number_of (part (encode_accumulator (accumulator s n)) x m)
-  acc_number {at} x m g e h =
-      let q : at ≡ 80 + (24 * n + x) = omega arith in
-      g.gets (lent_length l) (rw e (omega arith)) ∙ ap number_of (rw (q, l.bytes) (part_acc s l.fine n x m j h))
+  pub acc_there : {r : Accumulator} → (length b ≡ 13776 → 80 + 24 * n + 24 ≤ 13776 → r ≡ accumulator_at (part b (80 + 24 * n) 24)) → r ≡ accumulator s n
+  acc_there g =
+      let q : 80 + 24 * n ≡ 80 + (24 * n + 0) = omega arith in
+      g (lent_length l) (omega arith) ∙ ap accumulator_at (rw (q, l.bytes) (part_acc s l.fine n 0 24 j (omega arith))) ∙ acc_back (accumulator s n) (l.fine.values n)
 
-  pub value_write : {c : List ℕ} {at v : ℕ} → Puts 4 b c at v → at ≡ 80 + 24 * n → v < 2 ^ 32 → Lent c (with_acc s n (with_value (accumulator s n) v))
+  pub value_write : {c : List ℕ} {at v : ℕ} → Written 4 b c at (bytes_of 4 v) → at ≡ 80 + 24 * n → v < 2 ^ 32 → Lent c (with_acc s n (with_value (accumulator s n) v))
   value_write {c} {at} {v} g e h =
       let q : at ≡ 80 + (24 * n + 0) = omega arith in
       record {
@@ -224,18 +230,6 @@ module _ {b : List ℕ} {s : State} (l : Lent b s) {n : ℕ} (j : n < 16) where
             ∙ rw (q, l.bytes) (put_acc s l.fine n 0 4 (bytes_of 4 v) (with_value (accumulator s n) v) j (omega arith) (value_put (accumulator s n) v));
         fine = fine_acc n (with_value (accumulator s n) v) l.fine h;
       }
-
-pub value_there : (c : Accumulator) → c.value < 2 ^ 32 → number_of (part (encode_accumulator c) 0 4) ≡ c.value
-unfolding encode_accumulator bytes_of
-value_there c w = number_of_bytes 4 c.value w
-
-pub owner_there : (c : Accumulator) → number_of (part (encode_accumulator c) 4 1) ≡ c.owner
-unfolding encode_accumulator bytes_of
-owner_there c = single c.owner
-
-pub operator_byte : (c : Accumulator) → number_of (part (encode_accumulator c) 5 1) ≡ operator_number c.operator
-unfolding encode_accumulator bytes_of
-operator_byte c = single (operator_number c.operator)
 
 -- A WHOLE ACCUMULATOR
 

@@ -16,12 +16,12 @@ use Rattle.rules.specs.Effects.{with_register}
 use Rattle.encoding.specs.Bytes.{bytes_of, number_of, part, encode_each}
 use Rattle.encoding.specs.Decode.{frame_at, status_of}
 use Rattle.encoding.specs.Encode.{status_byte, fault_byte, encode_frame, encode_hold, encode_activity}
-use Rattle.fields.specs.Lent.{FineActivity, Lent, Gets, Puts, with_act, with_spawner, with_name, cleared, with_status, with_hold, with_frame, with_depth, onward}
+use Rattle.fields.specs.Lent.{FineActivity, Lent, Written, with_act, with_spawner, with_name, cleared, with_status, with_hold, with_frame, with_depth, onward}
 use Rattle.encoding.proofs.NumberLaws.{number_of_bytes}
 use Rattle.encoding.proofs.FieldLaws.{sized}
 use Rattle.encoding.proofs.EnumLaws.{status_there}
-use Rattle.fields.proofs.Within.{put_one, get_one, put_first, put_second, part_first, part_second, lent_part, lent_back}
-use Rattle.fields.proofs.Stands.{frame_length, entries, own_head, head_length, holds_length, front_length, part_hold, put_hold, part_frame, put_frame, fine_hold, fine_frame, zero_offset, zero_phase, lent_length, own_number, own_part, own_write, own_put, mine, single}
+use Rattle.fields.proofs.Within.{put_one, get_one, put_first, put_second, part_first, part_second, lent_back}
+use Rattle.fields.proofs.Stands.{frame_length, entries, own_head, head_length, holds_length, front_length, part_hold, put_hold, part_frame, put_frame, fine_hold, fine_frame, zero_offset, zero_phase, lent_length, own_read, own_write, own_put, mine, single}
 
 -- FIELDS OF AN ACTIVITY
 
@@ -49,14 +49,13 @@ pub depth_put : (a : Activity) (d : ℕ) → d < 256 → put_mid 7 1 (encode_act
 unfolding encode_activity bytes_of
 depth_put a d h = let q : d % 256 ≡ d = omega arith in rw q
 
-pub status_put : (a : Activity) (st : Status) {x y : ℕ} → x ≡ status_byte st → y ≡ fault_byte st → x < 256 → y < 256
-    → put_mid 4 2 (encode_activity a) (bytes_of 2 (x + 256 * y)) ≡ encode_activity (with_status a st)
+pub status_put : (a : Activity) (st : Status) {n x y : ℕ} → n ≡ x + y * 256 → x ≡ status_byte st → y ≡ fault_byte st → x < 256 → y < 256
+    → put_mid 4 2 (encode_activity a) (bytes_of 2 n) ≡ encode_activity (with_status a st)
 unfolding encode_activity bytes_of
-status_put a st {x} {y} e f h k =
-    let q : (x + 256 * y) % 256 ≡ x = omega arith in
-    let d : (x + 256 * y) / 256 ≡ y = omega arith in
-    let r : y % 256 ≡ y = omega arith in
-    rw (q, d, r, e, f)
+status_put a st {n} {x} {y} g e f h k =
+    let q : n % 256 ≡ x = omega arith in
+    let d : n / 256 % 256 ≡ y = omega arith in
+    rw (q, d, e, f)
 
 pub status_of_bytes : {x y : ℕ} (st : Status) → x ≡ status_byte st → y ≡ fault_byte st → status_of x y ≡ st
 status_of_bytes {x} {y} st e f = ap (λ (n : ℕ). status_of n y) e ∙ ap (λ (n : ℕ). status_of (status_byte st) n) f ∙ status_there st
@@ -105,8 +104,9 @@ offset_put f v = refl
 
 module _ {b : List ℕ} {s : State} (l : Lent b s) {i : ℕ} (j : i < 64) where
   module _ {k : ℕ} (h : k < 8) where
-    pub hold_number : {at r : ℕ} (x m : ℕ) → Gets m b at r → at ≡ 480 + 208 * i + 8 * k + x → x + m ≤ 8 → r ≡ number_of (part (encode_hold (hold (act s i) k)) x m)
-    hold_number x m g e q = own_number l j (16 + (8 * k + x)) m g (omega arith) (omega arith) ∙ ap number_of (part_hold (act s i) (mine l j) k x m h q)
+    pub hold_read : {A : Type 0} {r : A} (f : List ℕ → A) (a x m : ℕ) → (length b ≡ 13776 → i < 64 → a < 208 → a + m ≤ 208 → r ≡ f (part b (464 + (208 * i + a)) m)) → a ≡ 16 + (8 * k + x) → x + m ≤ 8 → 0 < m
+        → r ≡ f (part (encode_hold (hold (act s i) k)) x m)
+    hold_read f a x m g e q z = own_read l j f a m g (omega arith) (omega arith) ∙ ap f (rw e (part_hold (act s i) (mine l j) k x m h q))
 
     -- eight bytes lent from where it stands
     pub hold_write : (g : Hold) (e : List ℕ) → e ≡ encode_hold g → g.phase < 2 ^ 16
@@ -118,13 +118,11 @@ module _ {b : List ℕ} {s : State} (l : Lent b s) {i : ℕ} (j : i < 64) where
         (put_hold (act s i) (mine l j) k 0 8 e g h (omega arith) (rw p (hold_whole (hold (act s i) k) g))) (fine_hold (mine l j) k g y))
 
   module _ {d : ℕ} (h : d < 16) where
-    pub frame_number : {at r : ℕ} (x m : ℕ) → Gets m b at r → at ≡ 544 + 208 * i + 8 * d + x → x + m ≤ 8 → r ≡ number_of (part (encode_frame (frame (act s i) d)) x m)
-    frame_number x m g e q = own_number l j (80 + (8 * d + x)) m g (omega arith) (omega arith) ∙ ap number_of (part_frame (act s i) (mine l j) d x m h q)
-
-    pub frame_part : let at = 544 + 208 * i + 8 * d in take (at + 8 - at) (drop at b) ≡ part (encode_frame (frame (act s i) d)) 0 8
-    frame_part =
-        let at = 544 + 208 * i + 8 * d in
-        lent_part at 8 b ∙ own_part l j {at = at} (80 + (8 * d + 0)) 8 (omega arith) (omega arith) ∙ part_frame (act s i) (mine l j) d 0 8 h (omega arith)
+    pub frame_read : {A : Type 0} {r : A} (f : List ℕ → A) (m : ℕ) → (length b ≡ 13776 → i < 64 → 80 + 8 * d < 208 → 80 + 8 * d + m ≤ 208 → r ≡ f (part b (464 + (208 * i + (80 + 8 * d))) m)) → m ≤ 8
+        → r ≡ f (part (encode_frame (frame (act s i) d)) 0 m)
+    frame_read f m g q =
+        let z : 8 * d ≡ 8 * d + 0 = omega arith in
+        own_read l j f (80 + 8 * d) m g (omega arith) (omega arith) ∙ ap (λ n. f (part (encode_activity (act s i)) (80 + n) m)) z ∙ ap f (part_frame (act s i) (mine l j) d 0 m h (omega arith))
 
     pub frame_write : (f : Frame) (e : List ℕ) → e ≡ encode_frame f → f.offset < 2 ^ 16
         → let at = 544 + 208 * i + 8 * d in Lent (put_mid at (at + 8 - at) b e) (with_act s i (with_frame (act s i) d f))
@@ -134,11 +132,13 @@ module _ {b : List ℕ} {s : State} (l : Lent b s) {i : ℕ} (j : i < 64) where
         (own_write l j {at = at} e (80 + (8 * d + 0)) 8 (with_frame (act s i) d f) (omega arith) (omega arith)
         (put_frame (act s i) (mine l j) d 0 8 e f h (omega arith) (rw p (frame_whole (frame (act s i) d) f))) (fine_frame (mine l j) d f y))
 
-    pub offset_write : {c : List ℕ} {at v : ℕ} → Puts 2 b c at v → at ≡ 544 + 208 * i + 8 * d → v < 2 ^ 16 → Lent c (with_act s i (with_frame (act s i) d (onward (frame (act s i) d) v)))
-    offset_write {c} {at} {v} g q y =
-        own_put l j (80 + (8 * d + 0)) 2 (with_frame (act s i) d (onward (frame (act s i) d) v)) g (omega arith) (omega arith)
-        (put_frame (act s i) (mine l j) d 0 2 (bytes_of 2 v) (onward (frame (act s i) d) v) h (omega arith) (offset_put (frame (act s i) d) v))
-        (fine_frame (mine l j) d (onward (frame (act s i) d) v) y)
+    pub offset_write : {c : List ℕ} {v : ℕ} → (i < 64 → 80 + 8 * d < 208 → Written 2 b c (464 + (208 * i + (80 + 8 * d))) (bytes_of 2 v)) → v < 2 ^ 16 → Lent c (with_act s i (with_frame (act s i) d (onward (frame (act s i) d) v)))
+    offset_write {v = v} p y =
+        let f = onward (frame (act s i) d) v in
+        let z : 8 * d ≡ 8 * d + 0 = omega arith in
+        own_put l j (80 + 8 * d) 2 (with_frame (act s i) d f) p (omega arith) (omega arith)
+        (ap (λ n. put_mid (80 + n) 2 (encode_activity (act s i)) (bytes_of 2 v)) z ∙ put_frame (act s i) (mine l j) d 0 2 (bytes_of 2 v) f h (omega arith) (offset_put (frame (act s i) d) v))
+        (fine_frame (mine l j) d f y)
 
 -- NAMES AND WHAT IS CLEARED
 
@@ -220,12 +220,11 @@ spawner_put a v h = let q : v % 256 ≡ v = omega arith in rw q
 -- NAMES IN THE STATE, AND AN ACTIVITY CLEARED
 
 module _ {b : List ℕ} {s : State} (l : Lent b s) {i : ℕ} (j : i < 64) where
-  pub name_read : {n at r : ℕ} → n < 8 → Gets 1 b at r → at ≡ 472 + 208 * i + n → r ≡ bound (act s i) n
-  name_read {n} h g e = own_number l j (8 + n) 1 g (omega arith) (omega arith) ∙ name_there (act s i) (mine l j) n h
+  pub name_read : {n r : ℕ} → n < 8 → (length b ≡ 13776 → i < 64 → 8 + n < 208 → 8 + n + 1 ≤ 208 → r ≡ number_of (part b (464 + (208 * i + (8 + n))) 1)) → r ≡ bound (act s i) n
+  name_read {n} h g = own_read l j number_of (8 + n) 1 g (omega arith) (omega arith) ∙ name_there (act s i) (mine l j) n h
 
-  pub name_write : {c : List ℕ} {n at v : ℕ} → n < 8 → Puts 1 b c at v → at ≡ 472 + 208 * i + n → v < 256 → Lent c (with_act s i (with_name (act s i) n v))
-  name_write {n = n} {v = v} h g e k =
-      own_put l j (8 + n) 1 (with_name (act s i) n v) g (omega arith) (omega arith) (name_put (act s i) (mine l j) n v h k) (fine_name n v (mine l j))
+  pub name_write : {c : List ℕ} {n v : ℕ} → n < 8 → (i < 64 → 8 + n < 208 → Written 1 b c (464 + (208 * i + (8 + n))) (bytes_of 1 v)) → v < 256 → Lent c (with_act s i (with_name (act s i) n v))
+  name_write {n = n} {v = v} h g k = own_put l j (8 + n) 1 (with_name (act s i) n v) g (omega arith) (omega arith) (name_put (act s i) (mine l j) n v h k) (fine_name n v (mine l j))
 
   pub clear_write : (e : List ℕ) → let at = 480 + 208 * i in e ≡ replicate (length (take (at + 192 - at) (drop at b))) 0 → Lent (put_mid at (at + 192 - at) b e) (with_act s i (cleared (act s i)))
   clear_write e q =

@@ -16,7 +16,7 @@ use Rattle.rules.specs.Effects.{with_register}
 use Rattle.rules.proofs.Lists.{Stored, new, old, stored}
 use Rattle.encoding.specs.Bytes.{bytes_of, number_of, part, encode_each}
 use Rattle.encoding.specs.Encode.{version, status_byte, fault_byte, encode_frame, encode_hold, encode_accumulator, encode_activity, encode_state}
-use Rattle.fields.specs.Lent.{FineActivity, Fine, Lent, Gets, Puts, with_act, with_steps, with_status, with_hold, with_frame, with_depth}
+use Rattle.fields.specs.Lent.{FineActivity, Fine, Lent, Gets, Written, with_act, with_steps, with_status, with_hold, with_frame, with_depth}
 use Rattle.encoding.proofs.NumberLaws.{bytes_of_length}
 use Rattle.fields.proofs.Within.{put_first, put_second, put_inside, each_length, part_first, part_second, part_inside}
 
@@ -230,11 +230,16 @@ module _ {b : List ℕ} {s : State} (l : Lent b s) {i : ℕ} (j : i < 64) where
       → Lent (put_mid at k b e) (with_act s i x)
   own_write {at} e a k x q h p y = record { bytes = rw (q, l.bytes) (put_act s l.fine i a k e x j h p); fine = fine_act i l.fine y }
 
-  -- with a number written
-  pub own_put : {c : List ℕ} {at v : ℕ} (a k : ℕ) (x : Activity) → Puts k b c at v → at ≡ 464 + (208 * i + a) → a + k ≤ 208
-      → put_mid a k (encode_activity (act s i)) (bytes_of k v) ≡ encode_activity x → FineActivity x → Lent c (with_act s i x)
-  own_put {c} {at} {v} a k x g q h p y =
-      subst (λ (r : List ℕ). Lent r (with_act s i x)) (sym (g.puts (lent_length l) (rw q (omega arith)))) (own_write (bytes_of k v) a k x q h p y)
+  -- a part of one as it is read
+  pub own_read : {A : Type 0} {r : A} (f : List ℕ → A) (a k : ℕ) → (length b ≡ 13776 → i < 64 → a < 208 → a + k ≤ 208 → r ≡ f (part b (464 + (208 * i + a)) k)) → a < 208 → a + k ≤ 208
+      → r ≡ f (part (encode_activity (act s i)) a k)
+  own_read f a k g q h = g (lent_length l) j q h ∙ ap f (own_part a k refl h)
+
+  -- and as it is written
+  pub own_put : {c e : List ℕ} (a k : ℕ) (x : Activity) → (i < 64 → a < 208 → Written k b c (464 + (208 * i + a)) e) → a < 208 → a + k ≤ 208
+      → put_mid a k (encode_activity (act s i)) e ≡ encode_activity x → FineActivity x → Lent c (with_act s i x)
+  own_put {e = e} a k x g q h p y =
+      subst (λ (r : List ℕ). Lent r (with_act s i x)) (sym ((g j q).puts (lent_length l) (omega arith))) (own_write e a k x refl h p y)
 
   -- the activity fits
   pub mine : FineActivity (act s i)

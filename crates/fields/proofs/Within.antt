@@ -4,12 +4,11 @@ use native.Mathlib.Omega.{arith}
 use native.Mathlib.Numerals.{add-one}
 use native.Mathlib.Nat.{not-suc-le-zero, le_of_suc-le-suc, mul-suc, mul-zero, add_comm, zero-add, zero-lt-suc}
 use mathlib.Core.List.{List, [], ◌∷◌, ◌++◌, append_assoc}
-use mathlib.Core.Path.{◌≡◌, refl, sym, ap, ◌∙◌}
+use mathlib.Core.Path.{◌≡◌, sym, ap, ◌∙◌}
 use lib.ListN.{length, get_or, take, drop, set, length-append, length-drop}
 use lib.Seq.{drop_at, set_split, drop-drop, drop-cons, take-append-le, drop-append-le, take-append-add, drop-append-add}
 use borrow.Rule.Slice.PartMut.{put_mid}
 use Rattle.encoding.specs.Bytes.{bytes_of, number_of, part, encode_each}
-use Rattle.encoding.proofs.FieldLaws.{sized}
 
 -- within the first of two
 pub put_first : (q r e : List ℕ) (a k : ℕ) → a + k ≤ length q → put_mid a k (q ++ r) e ≡ put_mid a k q e ++ r
@@ -94,18 +93,6 @@ turn_off at k = omega arith
 -- a number that is read
 pub get_part : {x : ℕ} (b : List ℕ) (at k : ℕ) → x ≡ number_of (take (at + k - at) (drop at b)) → x ≡ number_of (part b at k)
 get_part b at k e = e ∙ rw (turn_off at k)
-
--- a number that is written
-pub put_part : (x : ℕ) (b : List ℕ) (at k : ℕ) (e : List ℕ) → e ≡ bytes_of (length (take (at + k - at) (drop at b))) x → at + k ≤ length b → put_mid at (at + k - at) b e ≡ put_mid at k b (bytes_of k x)
-put_part x b at k e h l = rw (h, turn_off at k, sized b at k k refl l)
-
--- two bytes that are read
-pub get_two : (b : List ℕ) (at x y : ℕ) → at + 2 ≤ length b → x ≡ get_or b at 0 → y ≡ get_or b (at + 1) 0 → x + 256 * y ≡ number_of (part b at 2)
-unfolding number_of
-get_two b at x y h e f =
-    let g : at < length b = omega arith in
-    let k : suc at < length b = omega arith in
-    rw (drop-cons b at 0 g, drop-cons b (suc at) 0 k, e, f, add-one at) (omega arith)
 
 -- a part that is lent
 pub lent_part : (at k : ℕ) (b : List ℕ) → take (at + k - at) (drop at b) ≡ part b at k

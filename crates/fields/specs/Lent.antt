@@ -9,7 +9,7 @@ use Rattle.rules.specs.declared.state.Accumulator.{Accumulator}
 use Rattle.rules.specs.declared.state.State.{State}
 use Rattle.rules.specs.State.{no_frames, no_holds, act, frame, hold, accumulator}
 use Rattle.rules.specs.Effects.{with_frames, with_holds, with_names}
-use Rattle.encoding.specs.Bytes.{bytes_of, number_of, part}
+use Rattle.encoding.specs.Bytes.{number_of, part}
 use Rattle.encoding.specs.Encode.{encode_state}
 
 -- BYTES OF A STATE
@@ -164,9 +164,9 @@ onward f offset = record { offset = offset; body = f.body; runs = f.runs; first 
 pub record Gets (k : ℕ) (b : List ℕ) (at r : ℕ) : Type 0 where
   pub gets : length b ≡ 13776 → at + k ≤ 13776 → r ≡ number_of (part b at k)
 
--- k bytes from a place on become those of a number
-pub record Puts (k : ℕ) (b c : List ℕ) (at v : ℕ) : Type 0 where
-  pub puts : length b ≡ 13776 → at + k ≤ 13776 → c ≡ put_mid at k b (bytes_of k v)
+-- k bytes from a place on become those
+pub record Written (k : ℕ) (b c : List ℕ) (at : ℕ) (e : List ℕ) : Type 0 where
+  pub puts : length b ≡ 13776 → at + k ≤ 13776 → c ≡ put_mid at k b e
 
 -- what is read is what the state has
 pub record Reads {A : Type 0} (f : State → A) (b : List ℕ) (r : A) : Type 0 where

@@ -5,9 +5,9 @@ ghost use Rattle.rules.specs.State.{accumulator};
 ghost use Rattle.rules.specs.Effects.{with_value};
 ghost use Rattle.fields.specs.Lent.{Reads, Writes, with_acc};
 
-use super::bytes::{get1, get4, put4};
+use super::bytes::{get, put};
+use encoding::part::Part;
 use parts::empty::no_accumulator;
-use parts::numbers::operator_of;
 use rules::state::Accumulator;
 
 pub fn accumulator_at(state: &[u8], n: usize) -> Accumulator
@@ -16,15 +16,7 @@ pub fn accumulator_at(state: &[u8], n: usize) -> Accumulator
     if 16 <= n {
         return no_accumulator();
     }
-    let at = 80 + 24 * n;
-    let value = get4(state, at);
-    let owner = get1(state, at + 4);
-    let operator = operator_of(get1(state, at + 5));
-    Accumulator {
-        value,
-        owner,
-        operator,
-    }
+    get(state, 80 + 24 * n, no_accumulator())
 }
 
 pub fn put_value(state: &mut [u8], n: usize, v: u32)
@@ -33,18 +25,15 @@ pub fn put_value(state: &mut [u8], n: usize, v: u32)
     if 16 <= n {
         return;
     }
-    put4(state, 80 + 24 * n, v);
+    put(state, 80 + 24 * n, v);
 }
 
+// Not by `put_own`, as `put_frame`.
 pub fn put_accumulator(state: &mut [u8], n: usize, a: Accumulator)
     ensures { n < 16 → Writes (λ (s : State). with_acc s n a) state.old state.new }
 {
-    if state.len() != 13776 {
-        return;
+    if state.len() == 13776 && n < 16 {
+        let at = 80 + 24 * n;
+        a.put(&mut state[at..at + 24]);
     }
-    if 16 <= n {
-        return;
-    }
-    let at = 80 + 24 * n;
-    encoding::accumulators::put_accumulator(a, &mut state[at..at + 24]);
 }

@@ -1,84 +1,54 @@
-// Numbers in the lent bytes of a state, at a place and of 1, 2 or 4 bytes. All total.
-ghost use Rattle.std.specs.Prelude.{◌≡◌, ◌<◌};
-ghost use Rattle.fields.specs.Lent.{Gets, Puts};
+// The parts in the lent bytes of a state, at a place: numbers of 1, 2 or 4 bytes, bodies, clock names and accumulators. All total.
+ghost use Rattle.std.specs.Prelude.{◌≡◌, ◌≤◌, ◌<◌, ◌+◌, ◌*◌, true, List, ℕ, length};
+ghost use Rattle.encoding.specs.Bytes.{part};
+ghost use Rattle.fields.specs.Lent.{Gets, Written};
 
-use encoding::numbers::{number, put_number};
+use encoding::part::Part;
 
-// A byte as a number of 16 bits.
-pub fn wide(x: u8) -> u16
-    ensures { (result ≡ x) × (result < 256) }
+// The part at a place; `other` where the bytes are no state's, or the part does not lie within them.
+pub fn get<P: Part>(state: &[u8], at: usize, other: P) -> P
+    requires { (b : List ℕ) → P.readable b ≡ true }
+    ensures { length state.now ≡ 13776 → at + P.SIZE ≤ 13776 → result ≡ P.decode (part state.now at P.SIZE) }
 {
-    x as u16
+    if state.len() == 13776 && at <= 13776 && P::SIZE <= 13776 - at {
+        P::at(&state[at..at + P::SIZE])
+    } else {
+        other
+    }
 }
 
+// A part is written at a place, where it lies within the bytes of a state.
+pub fn put<P: Part>(state: &mut [u8], at: usize, value: P)
+    ensures { Written P.SIZE state.old state.new at (P.encode value) }
+{
+    if state.len() == 13776 && at <= 13776 && P::SIZE <= 13776 - at {
+        value.put(&mut state[at..at + P::SIZE]);
+    }
+}
+
+// The part that stands n bytes on in the entry of activity i.
+pub fn get_own<P: Part>(state: &[u8], i: usize, n: usize, other: P) -> P
+    requires { (b : List ℕ) → P.readable b ≡ true }
+    ensures { length state.now ≡ 13776 → i < 64 → n < 208 → n + P.SIZE ≤ 208 → result ≡ P.decode (part state.now (464 + (208 * i + n)) P.SIZE) }
+{
+    if i < 64 && n < 208 {
+        get(state, 464 + (208 * i + n), other)
+    } else {
+        other
+    }
+}
+
+pub fn put_own<P: Part>(state: &mut [u8], i: usize, n: usize, value: P)
+    ensures { i < 64 → n < 208 → Written P.SIZE state.old state.new (464 + (208 * i + n)) (P.encode value) }
+{
+    if i < 64 && n < 208 {
+        put(state, 464 + (208 * i + n), value);
+    }
+}
+
+// A byte.
 pub fn get1(state: &[u8], at: usize) -> u8
     ensures { Gets 1 state.now at result }
 {
-    if state.len() != 13776 {
-        return 0;
-    }
-    if 13775 < at {
-        return 0;
-    }
-    state[at]
-}
-
-pub fn get2(state: &[u8], at: usize) -> u16
-    ensures { Gets 2 state.now at result }
-{
-    if state.len() != 13776 {
-        return 0;
-    }
-    if 13774 < at {
-        return 0;
-    }
-    wide(state[at]) + 256 * wide(state[at + 1])
-}
-
-pub fn get4(state: &[u8], at: usize) -> u32
-    ensures { Gets 4 state.now at result }
-{
-    if state.len() != 13776 {
-        return 0;
-    }
-    if 13772 < at {
-        return 0;
-    }
-    number(&state[at..at + 4])
-}
-
-pub fn put1(state: &mut [u8], at: usize, v: u8)
-    ensures { Puts 1 state.old state.new at v }
-{
-    if state.len() != 13776 {
-        return;
-    }
-    if 13775 < at {
-        return;
-    }
-    state[at] = v;
-}
-
-pub fn put2(state: &mut [u8], at: usize, v: u16)
-    ensures { Puts 2 state.old state.new at v }
-{
-    if state.len() != 13776 {
-        return;
-    }
-    if 13774 < at {
-        return;
-    }
-    put_number(v as u32, &mut state[at..at + 2]);
-}
-
-pub fn put4(state: &mut [u8], at: usize, v: u32)
-    ensures { Puts 4 state.old state.new at v }
-{
-    if state.len() != 13776 {
-        return;
-    }
-    if 13772 < at {
-        return;
-    }
-    put_number(v, &mut state[at..at + 4]);
+    get(state, at, 0)
 }

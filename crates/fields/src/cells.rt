@@ -3,7 +3,7 @@ ghost use Rattle.std.specs.Prelude.{◌<◌, get_or};
 ghost use Rattle.rules.specs.declared.state.State.{State};
 ghost use Rattle.fields.specs.Lent.{Reads, Writes, with_cell};
 
-use super::bytes::{get4, put4};
+use super::bytes::{get, put};
 
 pub fn cell_at(state: &[u8], d: usize) -> u32
     ensures { d < 16 → Reads (λ (s : State). get_or s.cells d 0) state.now result }
@@ -11,7 +11,7 @@ pub fn cell_at(state: &[u8], d: usize) -> u32
     if 16 <= d {
         return 0;
     }
-    get4(state, 16 + 4 * d)
+    get(state, 16 + 4 * d, 0)
 }
 
 pub fn put_cell(state: &mut [u8], d: usize, v: u32)
@@ -20,5 +20,5 @@ pub fn put_cell(state: &mut [u8], d: usize, v: u32)
     if 16 <= d {
         return;
     }
-    put4(state, 16 + 4 * d, v);
+    put(state, 16 + 4 * d, v);
 }

@@ -6,12 +6,11 @@ use mathlib.Core.List.{List, [], ◌∷◌}
 use mathlib.Core.Bool.{true}
 use lib.ListN.{get_or, drop}
 use Rattle.program.specs.Command.{opcode, operands_of, command_of, word}
-use Rattle.program.specs.Reading.{read}
+use Rattle.program.specs.Reading.{read, whole}
 use Rattle.program.specs.Bodies.{program_of}
 use Rattle.program.specs.Scan.{scan, layout_of}
 use Rattle.program.specs.declared.command.Command.{Command}
 use Rattle.program.specs.declared.command.Command.TheVariants.{Repeat, Put}
-use Rattle.program.specs.declared.reading.Reading.TheVariants.{Whole}
 use Rattle.program.proofs.Basic.{apart, Bytes, bytes_drop}
 use Rattle.program.proofs.ShapeReading.{read_as}
 use Rattle.rules.specs.declared.state.Frame.{Frame}
@@ -25,7 +24,7 @@ pub record Narrow (c : Command) : Type 0 where
   pub value : (v : ℕ) → c ≡ Put v → v < 2 ^ 32
 
 -- A command read from bytes.
-pub narrow : (s : List ℕ) {c : Command} {size : ℕ} → Bytes s → read s ≡ Whole c size → Narrow c
+pub narrow : (s : List ℕ) {c : Command} {size : ℕ} → Bytes s → read s ≡ whole c size → Narrow c
 unfolding read command_of
 narrow [] y e = apart (cc)
 narrow (op ∷ s) {c} y e =

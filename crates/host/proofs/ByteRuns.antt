@@ -8,15 +8,15 @@ use lib.ListN.{length}
 use lib.Dec.{leb, eqb}
 use borrow.Author.Tests.{eq-eqb, ne_eqb, leb-true, le-leb, lt-leb}
 use Rattle.program.specs.Table.{work_limit, number_of}
+use Rattle.std.specs.Prelude.{Ok, Err}
+use Rattle.program.specs.Refusal.{refusal_number}
 use Rattle.program.proofs.Basic.{Bytes}
 use Rattle.rules.specs.declared.state.Fault.{Fault}
 use Rattle.rules.specs.declared.state.Status.TheVariants.{Running, AtBarrier, Ended, Faulted}
 use Rattle.rules.specs.declared.state.State.{State}
-use Rattle.rules.specs.declared.answer.Answer.{Answer}
-use Rattle.rules.specs.declared.answer.Answer.TheVariants.{Accepted, Refused}
-use Rattle.rules.specs.State.{fault_number, answer_number}
+use Rattle.rules.specs.State.{Answer, fault_number, answer_number}
 use Rattle.rules.proofs.FaultNumbers.{fault_range}
-use Rattle.rules.specs.Steps.{base, start_with, start, step, ready}
+use Rattle.rules.specs.Steps.{base, start_with, start, step, ready, ready_set as set_of}
 use Rattle.rules.specs.Runs.{run_from, answers_from, run, answers, is_accepted, is_fault, taken, some_fault, spared_from, spared, all_ran_from, all_ran}
 use Rattle.rules.specs.Demand3.{is_of_run, all_of_run, Demand3}
 use Rattle.rules.proofs.Tests.{and_true, and_intro, or_right, true_false}
@@ -78,28 +78,28 @@ fault_answer f = let h = fault_range f in rw (le-leb 101 (100 + fault_number f) 
 -- The number of an answer of a run tells whether the step was accepted, and whether it met a fault.
 fault_number_lem : (a : Answer) → is_of_run a ≡ true → is_fault_number (answer_number a) ≡ is_fault a
 unfolding is_fault_number
-fault_number_lem (Accepted Running) e = refl
-fault_number_lem (Accepted AtBarrier) e = refl
-fault_number_lem (Accepted Ended) e = refl
-fault_number_lem (Accepted (Faulted f)) e = fault_answer f
-fault_number_lem (Refused n) e = rw (between n e).1
+fault_number_lem (Ok Running) e = refl
+fault_number_lem (Ok AtBarrier) e = refl
+fault_number_lem (Ok Ended) e = refl
+fault_number_lem (Ok (Faulted f)) e = fault_answer f
+fault_number_lem (Err r) e = rw (between (refusal_number r) e).1
 
 taken_number : (a : Answer) → is_of_run a ≡ true → is_taken (answer_number a) ≡ is_accepted a
 unfolding is_taken is_fault_number
-taken_number (Accepted Running) e = refl
-taken_number (Accepted AtBarrier) e = refl
-taken_number (Accepted Ended) e = refl
-taken_number (Accepted (Faulted f)) e = or_right (eqb (100 + fault_number f) 0) _ (fault_answer f)
-taken_number (Refused n) e = rw ((between n e).0, (between n e).1)
+taken_number (Ok Running) e = refl
+taken_number (Ok AtBarrier) e = refl
+taken_number (Ok Ended) e = refl
+taken_number (Ok (Faulted f)) e = or_right (eqb (100 + fault_number f) 0) _ (fault_answer f)
+taken_number (Err r) e = rw ((between (refusal_number r) e).0, (between (refusal_number r) e).1)
 
 accepted_number : (a : Answer) → is_accepted a ≡ true → is_taken (answer_number a) ≡ true
-accepted_number (Accepted status) e = taken_number (Accepted status) refl
-accepted_number (Refused n) e = absurd (true_false false e refl)
+accepted_number (Ok status) e = taken_number (Ok status) refl
+accepted_number (Err r) e = absurd (true_false false e refl)
 
 run_number_lem : (a : Answer) → is_of_run a ≡ true → is_run_number (answer_number a) ≡ true
 unfolding is_run_number
-run_number_lem (Accepted status) e = rw (taken_number (Accepted status) refl)
-run_number_lem (Refused n) e = rw (taken_number (Refused n) e) e
+run_number_lem (Ok status) e = rw (taken_number (Ok status) refl)
+run_number_lem (Err r) e = rw (taken_number (Err r) e) e
 
 -- So do the numbers of all answers.
 all_numbers : (l : List Answer) → all_of_run l ≡ true → all_run_numbers (map answer_number l) ≡ true
@@ -173,7 +173,7 @@ module _ (t : List ℕ) (y : Bytes t) (ok : number_of work_limit t ≡ 0) (b : L
     ready_given : ready_number t (point_bytes t b order) ≡ 0
     ready_given = ap (ready_number t) at.bytes ∙ ready_number_lem t (run base t order) fits ∙ demand.fit
 
-    ready_there : ready_set t (point_bytes t b order) ≡ (ready base t (run base t order)).set
+    ready_there : ready_set t (point_bytes t b order) ≡ set_of (ready base t (run base t order))
     ready_there = ap (ready_set t) at.bytes ∙ ready_set_lem t (run base t order) fits
 
     step_there : (i : ℕ) → step_number t (point_bytes t b order) i ≡ answer_number (step base t (run base t order) i).answer

@@ -3,6 +3,7 @@ ghost use Rattle.std.specs.Prelude.{◌≡◌, length};
 ghost use Rattle.builder.specs.Build.{built_number, built_bytes, listed_number, listed_entries};
 ghost use Rattle.host.specs.Lists.{size_after, found_after};
 
+use super::number::number_of;
 use builder::{build, list};
 
 // The table of a list of commands into the buffer, and its length. A refused call leaves both as they were.
@@ -13,10 +14,8 @@ pub extern "C" fn stepmachine_build(entries: &[[u8; 5]], table: &mut [u8], size:
     ensures size_after { size.new ≡ size_after entries.now (length table.old) size.old }
 {
     let built = build(entries, table);
-    if built.number == 0 {
-        *size = built.length;
-    }
-    built.number
+    *size = built.unwrap_or(*size);
+    number_of(built)
 }
 
 // The commands of a table into the entries, and how many were found. A refused call leaves both as they were.
@@ -31,8 +30,6 @@ pub extern "C" fn stepmachine_commands(
     ensures found_after { found.new ≡ found_after table.now (length entries.old) found.old }
 {
     let listed = list(table, entries);
-    if listed.number == 0 {
-        *found = listed.count;
-    }
-    listed.number
+    *found = listed.unwrap_or(*found);
+    number_of(listed)
 }

@@ -4,18 +4,20 @@ use mathlib.Core.Path.{◌≡◌, refl, sym, ap, ◌∙◌}
 use mathlib.Core.List.{List, [], ◌∷◌, ◌++◌}
 use native.Mathlib.Omega.{arith}
 use lib.ListN.{length, take, drop}
-use lib.Seq.{sets-eq, take_at, take_all}
+use lib.Seq.{sets, sets-eq, take_at, take_all}
+use Rattle.lines.specs.declared.put.Text.{Text}
 use Rattle.lines.specs.Put.{Put}
 use Rattle.lines.specs.Text.{header_of, line_of, total_of}
 use Rattle.lines.specs.Walk.{steps_of, steps_in, lines_from, walk_text}
 use Rattle.lines.specs.Paged.{lines_between, Pages, over, page, joined}
 use Rattle.lines.proofs.Paging.{between_none, between_join}
 
--- A text that is put whole at the buffer's start is what stands before its end.
-pub handed : {before text after : List ℕ} {end : ℕ} → Put before 0 text after end → end ≡ length text → take end after ≡ text
-handed {before} {text} {after} {end} p e =
-    let fits : 0 + length text ≤ length before = omega (arith, p.place) in
-    ap (take end) (p.bytes ∙ sets-eq text before 0 fits) ∙ take_at text (drop (0 + length text) before) end (sym e)
+-- What is put whole at a buffer's start is what stands before the text's end.
+pub handed : {a b : Text} {xs : List ℕ} → Put a xs b → a.end ≡ 0 → b.end ≡ a.end + length xs → take b.end b.out.now ≡ xs
+handed {a} {b} {xs} p z e =
+    let fits : 0 + length xs ≤ length a.out.now = omega (arith, p.place) in
+    let size : length xs ≡ b.end = omega arith in
+    ap (take b.end) (p.holds ∙ ap (λ (n : ℕ). sets a.out.now n xs) z ∙ sets-eq xs a.out.now 0 fits) ∙ take_at xs (drop (0 + length xs) a.out.now) b.end size
 
 -- Pages from a line on, joined, are the lines from it on.
 pages_join : (order answers awaited : List ℕ) → length order ≤ length answers → length order ≤ length awaited
@@ -24,11 +26,11 @@ unfolding joined
 pages_join order answers awaited room size {line} h (over g) =
     let last : length order ≡ line = omega arith in
     sym (between_none order answers awaited line) ∙ ap (lines_between order answers awaited line) (sym last)
-pages_join order answers awaited room size {line} h (page {r = r} {more = rest} p more) =
+pages_join order answers awaited room size {line} h (page {next = next} {more = rest} z p more) =
     let within = p.within h in
-    ap (λ (l : List ℕ). l ++ joined rest) (handed p.put p.whole)
-    ∙ ap (λ (l : List ℕ). lines_between order answers awaited line r.line ++ l) (pages_join order answers awaited room size within more)
-    ∙ sym (between_join order answers awaited line r.line (length order) p.onward within within (omega arith) (omega arith))
+    ap (λ (l : List ℕ). l ++ joined rest) (handed p.put z p.whole)
+    ∙ ap (λ (l : List ℕ). lines_between order answers awaited line next ++ l) (pages_join order answers awaited room size within more)
+    ∙ sym (between_join order answers awaited line next (length order) p.onward within within (omega arith) (omega arith))
 
 -- Answers and numbers past the order make no line.
 lines_take : (n t : ℕ) (order answers awaited : List ℕ)

@@ -1,16 +1,18 @@
 -- The lines of a walk, page by page.
-use Prim.Native.Nat.{ℕ, zero, suc, ◌+◌, ◌-◌, ◌^◌, ◌/◌, ◌<◌, ◌≤◌}
+use Prim.Native.Nat.{ℕ, zero, suc, ◌+◌, ◌^◌, ◌/◌, ◌<◌, ◌≤◌}
 use mathlib.Core.Bool.{Bool, true, false, cond}
 use mathlib.Core.Path.{◌≡◌, refl, sym, ap, ◌∙◌, subst}
 use mathlib.Core.List.{List, [], ◌∷◌, ◌++◌, append_assoc, append-nil}
 use native.Mathlib.Numerals.{add-one}
 use native.Mathlib.Omega.{arith}
 use borrow.Author.Tests.{ltb-true, ltb-false, lt-ltb, le-ltb, ne_eqb, eq-eqb}
+use Rattle.std.specs.Prelude.{max, min}
 use lib.Dec.{ltb, eqb}
 use lib.ListN.{length, take, drop, get_or, length-append, take-append-drop}
-use lib.Seq.{slice, slice_empty, slice-cons, length-slice, take-suc, take_all, take-take, length-take-le, drop-append-le}
+use lib.Seq.{slice, slice_empty, slice-cons, length-slice, take-suc, take-take, length-take-le, drop-append-le}
 use Rattle.lines.specs.Text.{last_digit, digits_of, decimal_of, awaited_of, line_of, total_of, refused_of}
 use Rattle.lines.specs.Walk.{steps_of, steps_in, lines_from}
+use Rattle.lines.specs.declared.put.Text.{Text}
 use Rattle.lines.specs.Put.{Put}
 use Rattle.lines.specs.Paged.{lines_between, Paged}
 use Rattle.lines.proofs.Putting.{both, none, kept}
@@ -59,6 +61,12 @@ steps_more answers i h =
     ∙ steps_append (take i answers) (get_or answers i 0 ∷ [])
     ∙ ap (λ (k : ℕ). steps_in (take i answers) + k) (steps_one (get_or answers i 0))
 
+pub steps_below : (n : ℕ) (l : List ℕ) → steps_in (take n l) ≤ n
+unfolding steps_in
+steps_below zero l = omega arith
+steps_below (suc n) [] = omega arith
+steps_below (suc n) (x ∷ l) = let q = steps_below n l in omega (arith, steps_le x)
+
 -- LINES
 
 -- Lines after lines.
@@ -82,10 +90,6 @@ lines_append n t (x ∷ xs) (y ∷ ys) (z ∷ zs) xs' ys' zs' e d =
     ∙ sym (append_assoc first others _)
     ∙ ap (λ (k : ℕ). first ++ others ++ lines_from k (t + steps_of y + steps_in ys) xs' ys' zs') a
     ∙ ap (λ (k : ℕ). first ++ others ++ lines_from (n + suc (length xs)) k xs' ys' zs') b
-
--- All answers that count are passed.
-pub all_passed : (answers : List ℕ) (i line : ℕ) → i ≤ line → length answers ≤ i → steps_in (take i answers) ≡ steps_in (take line answers)
-all_passed answers i line g h = let k : length answers ≤ line = omega arith in ap steps_in (take_all i answers h ∙ sym (take_all line answers k))
 
 -- A part of a list is the two parts that a place between makes of it.
 slice_join : (l : List ℕ) (a b c : ℕ) → a ≤ b → b ≤ c → b ≤ length l → slice a c l ≡ slice a b l ++ slice b c l
@@ -214,44 +218,36 @@ refused_length number a =
 
 -- A PAGE UNDER WAY
 
-steps_below : (n : ℕ) (l : List ℕ) → steps_in (take n l) ≤ n
-unfolding steps_in
-steps_below zero l = omega arith
-steps_below (suc n) [] = omega arith
-steps_below (suc n) (x ∷ l) = let q = steps_below n l in omega (arith, steps_le x)
-
--- The lines before the next stand at the buffer's start, whole.
-pub record Under (before order answers awaited : List ℕ) (line : ℕ) (out : List ℕ) (taken end next : ℕ) : Type 0 where
-  pub put : Put before 0 (lines_between order answers awaited line next) out end
-  pub whole : end ≡ length (lines_between order answers awaited line next)
-  pub fits : end ≤ length before
+-- The lines before the next stand at the text's end, whole.
+pub record Under (before : Text) (order answers awaited : List ℕ) (line : ℕ) (text : Text) (taken next : ℕ) : Type 0 where
+  pub put : Put before (lines_between order answers awaited line next) text
+  pub whole : text.end ≡ before.end + length (lines_between order answers awaited line next)
   pub onward : line ≤ next
-  pub within : line ≤ length order → next ≤ length order
+  pub within : next ≤ max line (min (length order) (min (length answers) (length awaited)))
   pub counted : taken ≡ steps_in (take next answers)
   pub fewer : taken ≤ next
 
-module _ (before order answers awaited : List ℕ) (line : ℕ) where
-  pub under_start : {taken : ℕ} → taken ≡ steps_in (take line answers) → Under before order answers awaited line before taken 0 line
+module _ (before : Text) (order answers awaited : List ℕ) (line : ℕ) where
+  pub under_start : {taken : ℕ} → taken ≡ steps_in (take line answers) → Under before order answers awaited line before taken line
   under_start {taken} e =
       let nothing = between_none order answers awaited line in
       let below = steps_below line answers in
       record {
-        put = subst (λ (t : List ℕ). Put before 0 t before 0) (sym nothing) none;
-        whole = sym (ap length nothing);
-        fits = omega arith;
+        put = subst (λ (t : List ℕ). Put before t before) (sym nothing) none;
+        whole = omega (arith, ap length nothing);
         onward = omega arith;
-        within = λ h. h;
+        within = omega arith;
         counted = e;
         fewer = omega arith;
       }
 
-  module _ {out : List ℕ} {taken end next : ℕ} (u : Under before order answers awaited line out taken end next) where
+  module _ {text : Text} {taken next : ℕ} (u : Under before order answers awaited line text taken next) where
     -- A line more.
-    pub under_more : {out' : List ℕ} {steps end' : ℕ} → next < length order → next < length answers → next < length awaited → 128 ≤ length before - end
+    pub under_more : {after : Text} {steps : ℕ} → next < length order → next < length answers → next < length awaited → text.end + 128 ≤ length text.out.now
+        → steps ≡ steps_of (get_or answers next 0) → Put text (line_at order answers awaited next (taken + steps)) after
         → next + 1 < 18446744073709551616 → get_or order next 0 < 256 → get_or answers next 0 < 256 → get_or awaited next 0 < 256
-        → steps ≡ steps_of (get_or answers next 0) → Put out end (line_at order answers awaited next (taken + steps)) out' end'
-        → Under before order answers awaited line out' (taken + steps) end' (next + 1)
-    under_more {out'} {steps} {end'} o a w room wide act answer number e p =
+        → Under before order answers awaited line after (taken + steps) (next + 1)
+    under_more {after} {steps} o a w room e p wide act answer number =
         let sum : taken + steps ≡ steps_in (take (next + 1) answers) = omega (arith, steps_more answers next a, u.counted) in
         let below = steps_below (next + 1) answers in
         let text = between_more order answers awaited line next u.onward o a w in
@@ -261,36 +257,31 @@ module _ (before order answers awaited : List ℕ) (line : ℕ) where
         let small =
         line_length (next + 1) (get_or order next 0) (get_or answers next 0) (taken + steps) (get_or awaited next 0) wide (omega arith) (omega arith) (omega arith) (omega arith) in
         let long = ap length text' ∙ length-append here (line_at order answers awaited next (taken + steps)) in
-        let place = p.place in
-        let same = kept u.put in
         record {
-          put = subst (λ (t : List ℕ). Put before 0 t out' end') (sym text') (both u.put p);
-          whole = omega (arith, u.whole, u.fits);
-          fits = omega (arith, u.whole, u.fits);
+          put = subst (λ (t : List ℕ). Put before t after) (sym text') (both u.put p);
+          whole = omega (arith, u.whole, p.place);
           onward = omega (arith, u.onward);
-          within = λ h. omega arith;
+          within = omega arith;
           counted = sum;
           fewer = omega arith;
         }
 
     -- Where it stops.
-    pub under_end : (next < length order → next < length answers → next < length awaited → length before - end < 128)
-        → Paged before order answers awaited line out (record { end = end; line = next })
+    pub under_end : (next < length order → next < length answers → next < length awaited → length text.out.now < text.end + 128)
+        → Paged before order answers awaited line text next
     under_end stop =
         record {
           put = u.put;
           whole = u.whole;
           onward = u.onward;
-          within = u.within;
-          full = λ o a w. omega (arith, stop o a w, u.fits);
+          within = λ h. omega (arith, u.within);
+          full = λ o a w. omega (arith, stop o a w, kept u.put);
           goes = λ o a w room. go o a w room (ltb line next) refl;
         }
       where
-        go : line < length order → line < length answers → line < length awaited → 128 ≤ length before → (b : Bool) → ltb line next ≡ b → line < next
+        go : line < length order → line < length answers → line < length awaited → before.end + 128 ≤ length before.out.now → (b : Bool) → ltb line next ≡ b → line < next
         go o a w room true e = ltb-true line next e
         go o a w room false e =
             let same : next ≡ line = omega (arith, ltb-false line next e, u.onward) in
-            let empty = u.whole ∙ ap (λ (n : ℕ). length (lines_between order answers awaited line n)) same
-            ∙ ap length (between_none order answers awaited line) in
-            let q = stop (omega arith) (omega arith) (omega arith) in
-            absurd (omega arith)
+            let empty = ap (λ (n : ℕ). length (lines_between order answers awaited line n)) same ∙ ap length (between_none order answers awaited line) in
+            absurd (omega (arith, u.whole, stop (omega arith) (omega arith) (omega arith), kept u.put))

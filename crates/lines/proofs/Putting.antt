@@ -8,9 +8,11 @@ use native.Mathlib.Numerals.{add-one}
 use native.Mathlib.Omega.{arith}
 use borrow.Author.Tests.{leb-true, leb-false, ltb-false, lt-ltb, le-ltb, eq-eqb, ne_eqb}
 use lib.Dec.{leb, ltb}
+use Rattle.std.specs.Prelude.{min}
 use lib.ListN.{length, take, get_or, set, length-set, length-append}
-use lib.Seq.{sets, length-sets, set_out, take-suc, take_all}
-use Rattle.lines.specs.Put.{Put, place_after}
+use lib.Seq.{sets, length-sets, set_out, take-suc}
+use Rattle.lines.specs.declared.put.Text.{Text}
+use Rattle.lines.specs.Put.{Put}
 use Rattle.lines.specs.Text.{last_digit, digits_of, decimal_of, awaited_of}
 
 -- Nothing is written past the end.
@@ -28,46 +30,43 @@ sets_both l i (x ∷ xs) ys =
     sets_both (set l i x) (suc i) xs ys ∙ ap (λ (k : ℕ). sets (sets (set l i x) (suc i) xs) k ys) e
 
 -- The same where the buffer ends within the first: nothing of the second is written.
-sets_after : (l : List ℕ) (i : ℕ) (xs ys : List ℕ) → sets l i (xs ++ ys) ≡ sets (sets l i xs) (place_after (length l) i (length xs)) ys
+sets_after : (l : List ℕ) (i : ℕ) (xs ys : List ℕ) → sets l i (xs ++ ys) ≡ sets (sets l i xs) (min (i + length xs) (length l)) ys
 sets_after l i xs ys = go (leb (i + length xs) (length l)) refl
   where
-    go : (b : Bool) → leb (i + length xs) (length l) ≡ b → sets l i (xs ++ ys) ≡ sets (sets l i xs) (place_after (length l) i (length xs)) ys
+    go : (b : Bool) → leb (i + length xs) (length l) ≡ b → sets l i (xs ++ ys) ≡ sets (sets l i xs) (min (i + length xs) (length l)) ys
     go true h =
         let k : i + length xs ≤ length l = leb-true (i + length xs) (length l) h in
-        let e : i + length xs ≡ place_after (length l) i (length xs) = omega arith in
+        let e : i + length xs ≡ min (i + length xs) (length l) = omega arith in
         sets_both l i xs ys ∙ ap (λ (k : ℕ). sets (sets l i xs) k ys) e
     go false h =
         let k : length l < i + length xs = leb-false (i + length xs) (length l) h in
         let far : length (sets l i xs) ≤ i + length xs = omega (arith, length-sets l i xs) in
-        let out : length (sets l i xs) ≤ place_after (length l) i (length xs) = omega (arith, length-sets l i xs) in
-        sets_both l i xs ys ∙ sets_out (sets l i xs) (i + length xs) ys far ∙ sym (sets_out (sets l i xs) (place_after (length l) i (length xs)) ys out)
+        let out : length (sets l i xs) ≤ min (i + length xs) (length l) = omega (arith, length-sets l i xs) in
+        sets_both l i xs ys ∙ sets_out (sets l i xs) (i + length xs) ys far ∙ sym (sets_out (sets l i xs) (min (i + length xs) (length l)) ys out)
 
 -- The buffer's length stays.
-pub kept : {l l' xs : List ℕ} {at n : ℕ} → Put l at xs l' n → length l' ≡ length l
-kept {l} {l'} {xs} {at} p = ap length p.bytes ∙ length-sets l at xs
+pub kept : {a b : Text} {xs : List ℕ} → Put a xs b → length b.out.now ≡ length a.out.now
+kept {a} {b} {xs} p = ap length p.holds ∙ length-sets a.out.now a.end xs
 
 -- A text after another is the two joined.
-pub both : {l l' l'' xs ys : List ℕ} {at n m : ℕ} → Put l at xs l' n → Put l' n ys l'' m → Put l at (xs ++ ys) l'' m
-both {l} {l'} {l''} {xs} {ys} {at} {n} {m} p q = record {
-  bytes = q.bytes ∙ ap (λ (k : List ℕ). sets k n ys) p.bytes ∙ ap (λ (k : ℕ). sets (sets l at xs) k ys) p.place ∙ sym (sets_after l at xs ys);
+pub both : {a b c : Text} {xs ys : List ℕ} → Put a xs b → Put b ys c → Put a (xs ++ ys) c
+both {a} {b} {c} {xs} {ys} p q = record {
+  same_buffer = q.same_buffer ∙ p.same_buffer;
+  holds =
+      q.holds
+      ∙ ap (λ (l : List ℕ). sets l b.end ys) p.holds
+      ∙ ap (λ (n : ℕ). sets (sets a.out.now a.end xs) n ys) p.place
+      ∙ sym (sets_after a.out.now a.end xs ys);
   place = omega (arith, kept p, length-append xs ys, p.place, q.place);
 }
 
 -- Nothing put.
-pub none : {l : List ℕ} {at : ℕ} → Put l at [] l at
-none {l} {at} = record { bytes = refl; place = omega arith }
+pub none : {a : Text} → Put a [] a
+none {a} = record { same_buffer = refl; holds = refl; place = omega (arith, a.fits) }
 
--- A byte with no room.
-pub full : {l : List ℕ} {at x : ℕ} → length l ≤ at → Put l at (x ∷ []) l at
-full {l} {at} {x} h = record { bytes = sym (set_out l at x h); place = omega arith }
-
--- A byte more of a text.
-pub more : (text : List ℕ) (i : ℕ) {l l' l'' : List ℕ} {at n m : ℕ} → i < length text → Put l at (take i text) l' n → Put l' n (get_or text i 0 ∷ []) l'' m → Put l at (take (i + 1) text) l'' m
-more text i {l} {l'} {l''} {at} {n} {m} h p q = subst (λ (t : List ℕ). Put l at t l'' m) (sym (take-suc text i 0 h) ∙ ap (λ (k : ℕ). take k text) (sym (add-one i))) (both p q)
-
--- All of a text.
-pub whole : (text : List ℕ) (i : ℕ) {l l' : List ℕ} {at n : ℕ} → length text ≤ i → Put l at (take i text) l' n → Put l at text l' n
-whole text i {l} {l'} {at} {n} h p = subst (λ (t : List ℕ). Put l at t l' n) (take_all i text h) p
+-- A byte more.
+pub more : (text : List ℕ) (i : ℕ) {a b c : Text} → i < length text → Put a (take i text) b → Put b (get_or text i 0 ∷ []) c → Put a (take (i + 1) text) c
+more text i {a} {b} {c} h p q = subst (λ (t : List ℕ). Put a t c) (sym (take-suc text i 0 h) ∙ ap (λ (k : ℕ). take k text) (sym (add-one i))) (both p q)
 
 -- More fuel than the number changes nothing.
 fuel : (k j n : ℕ) → n < k → n < j → digits_of k n ≡ digits_of j n
@@ -96,18 +95,17 @@ large n h =
     rw (le-ltb n 10 h) (ap (λ (d : List ℕ). d ++ (last_digit n ∷ [])) (fuel n (suc (n / 10)) (n / 10) a b))
 
 -- A number of one digit, and one of more.
-pub one_digit : {l l' : List ℕ} {at m n x : ℕ} → n < 10 → x ≡ last_digit n → Put l at (x ∷ []) l' m → Put l at (decimal_of n) l' m
-one_digit {l} {l'} {at} {m} {n} {x} h e p = subst (λ (t : List ℕ). Put l at t l' m) (ap (λ (y : ℕ). y ∷ []) e ∙ sym (small n h)) p
+pub one_digit : {n : ℕ} {a b : Text} → n < 10 → Put a (last_digit n ∷ []) b → Put a (decimal_of n) b
+one_digit {n} {a} {b} h p = subst (λ (t : List ℕ). Put a t b) (sym (small n h)) p
 
-pub digit_more : {l l' l'' : List ℕ} {at m k n x : ℕ} → 10 ≤ n → x ≡ last_digit n → Put l at (decimal_of (n / 10)) l' m → Put l' m (x ∷ []) l'' k → Put l at (decimal_of n) l'' k
-digit_more {l} {l'} {l''} {at} {m} {k} {n} {x} h e p q = subst (λ (t : List ℕ). Put l at t l'' k) (ap (λ (y : ℕ). decimal_of (n / 10) ++ (y ∷ [])) e ∙ sym (large n h)) (both p q)
+pub digit_more : {n : ℕ} {a b c : Text} → 10 ≤ n → Put a (decimal_of (n / 10)) b → Put b (last_digit n ∷ []) c → Put a (decimal_of n) c
+digit_more {n} {a} {b} {c} h p q = subst (λ (t : List ℕ). Put a t c) (sym (large n h)) (both p q)
 
 -- A blank and a number behind answer 16, and nothing behind another.
-pub awaited_put : (n : ℕ) {l l' l'' : List ℕ} {at m k answer : ℕ} → answer ≡ 16 → Put l at (32 ∷ []) l' m → Put l' m (decimal_of n) l'' k
-    → Put l at (awaited_of answer n) l'' k
+pub awaited_put : (n : ℕ) {answer : ℕ} {a b c : Text} → answer ≡ 16 → Put a (32 ∷ []) b → Put b (decimal_of n) c → Put a (awaited_of answer n) c
 unfolding awaited_of
-awaited_put n {l} {l'} {l''} {at} {m} {k} {answer} e p q = rw (eq-eqb answer 16 e) (both p q)
+awaited_put n {answer} e p q = rw (eq-eqb answer 16 e) (both p q)
 
-pub awaited_none : (n : ℕ) {l : List ℕ} {at answer : ℕ} → (answer ≡ 16 → ⊥) → Put l at (awaited_of answer n) l at
+pub awaited_none : (n : ℕ) {answer : ℕ} {a : Text} → (answer ≡ 16 → ⊥) → Put a (awaited_of answer n) a
 unfolding awaited_of
-awaited_none n {l} {at} {answer} e = rw (ne_eqb answer 16 e) none
+awaited_none n {answer} e = rw (ne_eqb answer 16 e) none

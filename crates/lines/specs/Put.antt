@@ -1,12 +1,11 @@
--- What a function promises that puts a text at a place of a buffer.
-use Rattle.std.specs.Prelude.{ℕ, ◌+◌, min, max, List, ◌≡◌, length}
+-- What a function promises that puts something at a text's end.
+use Rattle.std.specs.Prelude.{ℕ, ◌+◌, min, List, ◌≡◌, length}
 use Rattle.std.proofs.lemmas.List.Edits.{sets}
+use Rattle.lines.specs.declared.put.Text.{Text}
 
--- The place after so many bytes put at a place: they stop where the buffer ends.
-abbrev pub place_after : ℕ → ℕ → ℕ → ℕ
-place_after room at count = max at (min (at + count) room)
-
--- The bytes from the place on become those of the text, one by one, as far as the buffer reaches; all others stay.
-pub record Put (before : List ℕ) (at : ℕ) (text after : List ℕ) (next : ℕ) : Type 0 where
-  pub bytes : after ≡ sets before at text
-  pub place : next ≡ place_after (length before) at (length text)
+-- The buffer's bytes from the text's end on become those that are put, one by one, as far as the buffer reaches; all others stay. The text ends behind them,
+-- or where the buffer does.
+pub record Put (before : Text) (bytes : List ℕ) (after : Text) : Type 0 where
+  pub same_buffer : after.out.ghost_name ≡ before.out.ghost_name
+  pub holds : after.out.now ≡ sets before.out.now before.end bytes
+  pub place : after.end ≡ min (before.end + length bytes) (length before.out.now)

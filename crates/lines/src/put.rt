@@ -1,46 +1,61 @@
-// Bytes and numbers put at a place of a buffer. Each answers the next place.
-ghost use Rattle.std.specs.Prelude.{◌≡◌, [], ◌∷◌};
-ghost use Rattle.lines.specs.Put.{Put};
-ghost use Rattle.lines.specs.Text.{last_digit, decimal_of};
+// A text under way, put at the start of a lent buffer: a byte, bytes and a number.
+ghost use Rattle.std.specs.Prelude.{◌≡◌, ◌≤◌, length};
 
-// A byte, where there is room.
-pub fn put_byte(out: &mut [u8], at: usize, x: u8) -> usize
-    ensures { Put out.old at (x ∷ []) out.new result }
-{
-    if at < out.len() {
-        out[at] = x;
-        return at + 1;
-    }
-    at
+// The text's bytes stand before `end`.
+#[derive(Drop)]
+pub struct Text<'a> {
+    pub out: &'a mut [u8],
+    pub end: usize,
+    ghost fits: { end ≤ length out.now },
 }
 
-// A text.
-pub fn put_bytes(out: &mut [u8], at: usize, text: &[u8]) -> usize
-    ensures { Put out.old at text.now out.new result }
-{
-    let mut next = at;
-    let mut i: usize = 0;
-    while i < text.len() {
-        next = put_byte(out, next, text[i]);
-        i += 1;
-    }
-    next
-}
+impl<'a> Text<'a> {
+    ghost use Rattle.std.specs.Prelude.{[], ◌∷◌, ◌+◌};
+    ghost use Rattle.lines.specs.Put.{Put};
+    ghost use Rattle.lines.specs.Text.{decimal_of};
 
-// The last decimal digit of a number, in ASCII.
-fn last_digit(n: u64) -> u8
-    ensures { result ≡ last_digit n }
-{
-    48 + (n % 10) as u8
-}
-
-// A number's decimal digits.
-pub fn put_number(out: &mut [u8], at: usize, n: u64) -> usize
-    ensures { Put out.old at (decimal_of n) out.new result }
-{
-    if n < 10 {
-        return put_byte(out, at, last_digit(n));
+    // A text with no byte.
+    pub fn new(out: &'a mut [u8]) -> Self
+        ensures same_buffer { result.out.ghost_name ≡ out.entry.ghost_name }
+        ensures bytes_stay { result.out.now ≡ out.old }
+        ensures empty { result.end ≡ 0 }
+    {
+        Text { out, end: 0 }
     }
-    let next = put_number(out, at, n / 10);
-    put_byte(out, next, last_digit(n))
+
+    // How many bytes more there is room for.
+    pub fn room(&self) -> usize
+        ensures { result + self.now.end ≡ length self.now.out.now }
+    {
+        self.out.len() - self.end
+    }
+
+    // A byte, where there is room.
+    pub fn byte(&mut self, x: u8)
+        ensures { Put self.old (x ∷ []) self.new }
+    {
+        if self.end < self.out.len() {
+            self.out[self.end] = x;
+            self.end += 1;
+        }
+    }
+
+    // Bytes, one after the other.
+    pub fn bytes(&mut self, text: &[u8])
+        ensures { Put self.old text.now self.new }
+    {
+        for x in text {
+            self.byte(*x);
+        }
+    }
+
+    // A number's decimal digits.
+    pub fn number(&mut self, n: u64)
+        ensures { Put self.old (decimal_of n) self.new }
+    {
+        if 10 <= n {
+            self.number(n / 10);
+        }
+        self.byte(b'0' + (n % 10) as u8);
+    }
 }

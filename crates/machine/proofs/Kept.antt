@@ -1,5 +1,5 @@
 -- The state after a step, put together from the one before it and from what the bytes of the step tell: all other entries are kept.
-use Prim.Native.Nat.{ℕ, ◌+◌, ◌-◌, ◌*◌, ◌≤◌, ◌<◌}
+use Prim.Native.Nat.{ℕ, min, ◌+◌, ◌-◌, ◌*◌, ◌≤◌, ◌<◌}
 use native.Mathlib.Omega.{arith}
 use mathlib.Core.Path.{◌≡◌, refl, sym, ◌∙◌}
 use mathlib.Core.List.{List}
@@ -7,7 +7,7 @@ use mathlib.Core.Bool.{Bool, true, false}
 use lib.Dec.{ltb}
 use lib.ListN.{length, get_or, take, drop, set, length-drop, length-set}
 use lib.Seq.{take_all, drop-drop, set_out, get_or-set_same, get_or-set_other, set-get_or, set-set}
-use borrow.Author.Tests.{lt-ltb, le-ltb, ltb-false}
+use borrow.Author.Tests.{ltb-true, ltb-false}
 use Rattle.rules.specs.declared.state.Activity.{Activity}
 use Rattle.rules.specs.declared.state.Accumulator.{Accumulator}
 use Rattle.rules.specs.declared.state.State.{State}
@@ -18,9 +18,12 @@ use Rattle.encoding.specs.Decode.{activity_at, accumulator_at, activity_encodes,
 use Rattle.encoding.proofs.FieldLaws.{sized}
 use Rattle.encoding.proofs.PartLaws.{parts_at_at, parts_pass_at}
 use Rattle.encoding.proofs.Passed.{state_passes}
-use Rattle.machine.specs.After.{entry}
 
 -- THE STATE
+
+-- The entry of a number; of a number past the last entry, the last.
+abbrev pub entry : ℕ → ℕ
+entry n = min n 63
 
 -- The entry of the activity, that of one more than there were, and what is no activity are those of t; the other activities are those of s.
 unfoldable pub after : State → State → ℕ → State
@@ -62,11 +65,8 @@ module _ (b : List ℕ) (n : length b ≡ 13776) (e : fields_encode b ≡ true) 
 
 -- THE ENTRIES
 
-pub within : (n : ℕ) → n < 64 → n ≡ entry n
-within n h = rw (lt-ltb n 64 h)
-
-pub last : (n : ℕ) → 64 ≤ n → 63 ≡ entry n
-last n h = rw (le-ltb n 64 h)
+within : (n : ℕ) → n < 64 → entry n ≡ n
+within n h = omega arith
 
 -- The activity's own entry is as the effect says.
 own_entry : (l : List Activity) (i n : ℕ) (a : Activity) (x : Spawned) → i < length l → i < n → get_or (with_spawned n (set l i a) x) i absent ≡ a
@@ -88,8 +88,11 @@ free_entry : (l : List Activity) (n : ℕ) (x : Spawned) → length l ≡ 64 →
 free_entry l n x h = go (ltb n 64) refl
   where
     go : (b : Bool) → ltb n 64 ≡ b → set l (entry n) (get_or (with_spawned n l x) (entry n) absent) ≡ with_spawned n l x
-    go true e = rw e (again l n x)
-    go false e = let k : length l ≤ n = rw h (ltb-false n 64 e) in rw (e, full l n x k) (set-get_or l 63 absent)
+    go true e = rw (within n (ltb-true n 64 e)) (again l n x)
+    go false e =
+        let k : length l ≤ n = rw h (ltb-false n 64 e) in
+        let last : entry n ≡ 63 = omega (arith, k) in
+        rw (last, full l n x k) (set-get_or l 63 absent)
 
 module _ (s : State) (i : ℕ) (e : Effect) (n : length s.acts ≡ 64) (h : i < s.activities) (m : s.activities ≤ 64) where
   pub own_after : act (applied s i e) i ≡ e.self
@@ -100,7 +103,7 @@ module _ (s : State) (i : ℕ) (e : Effect) (n : length s.acts ≡ 64) (h : i < 
   pub together : after s (applied s i e) i ≡ applied s i e
   unfolding after applied
   together =
-      let k : entry i ≡ i = sym (within i (omega arith)) in
+      let k : entry i ≡ i = within i (omega arith) in
       rw (k, own_entry s.acts i s.activities e.self e.spawned (omega arith) h, free_entry (set s.acts i e.self) s.activities e.spawned (length-set s.acts i e.self ∙ n))
 
 -- and a state put together from itself is that state too.

@@ -9,21 +9,25 @@ use lib.ListN.{length, take, drop}
 use borrow.Author.Tests.{eq-eqb, ne_eqb}
 use Rattle.program.specs.Table.{work_limit, number_of}
 use Rattle.program.proofs.Basic.{Bytes}
+use Rattle.program.specs.declared.refusal.Refusal.{Refusal}
+use Rattle.program.specs.declared.refusal.Refusal.TheVariants.{Buffer}
+use Rattle.program.specs.Refusal.{refusal_number, refusal_at}
 use Rattle.program.proofs.NumberLaws.{number_small}
+use Rattle.program.proofs.Refusals.{refusal_some}
+use Rattle.std.specs.Prelude.{Some, Ok, Err}
+use Rattle.rules.proofs.AnswerNumbers.{number_back}
 use Rattle.rules.specs.declared.state.State.{State}
-use Rattle.rules.specs.declared.answer.Completion.TheVariants as completion
 use Rattle.rules.specs.State.{zero_state}
 use Rattle.rules.specs.Steps.{base}
 use Rattle.rules.specs.Demand3.{AtEveryPoint}
 use Rattle.rules.specs.Runs.{run, awaiteds}
 use Rattle.rules.proofs.Tests.{true_false}
 use Rattle.rules.proofs.Demand3.{at_every_point}
-use Rattle.encoding.specs.declared.Decoded.{Decoded}
 use Rattle.encoding.specs.Decode.{decoded_of}
 use Rattle.fits.proofs.Fitting.{run_fits}
 use Rattle.calls.specs.Calls.{table_first, fits_state, run_number, run_answers, run_bytes, trace_counts}
 use Rattle.machine.specs.Ran.{ran_of, answered, awaited_by, Runs}
-use Rattle.machine.proofs.Values.{decoded}
+use Rattle.machine.proofs.Values.{decoded, refusal_is}
 
 module _ (t order before own : List ℕ) {after c : List ℕ} {n : ℕ} (long : length own ≡ 13776) (e : n ≡ run_number t order (length before) own)
     (f : after ≡ run_answers t order before own) (g : c ≡ run_bytes t order (length before) own) where
@@ -41,43 +45,34 @@ module _ (t order before own : List ℕ) {after c : List ℕ} {n : ℕ} (long : 
   unfolding run_answers
   stays h = f ∙ rw (sym e, ne_eqb n 0 h)
 
-  pub short : {s : State} → n ≡ 255 → s ≡ zero_state → Runs t order before after (record { completion = completion.Short; state = s })
+  -- It is turned down: by the table, or for want of room.
+  pub refused : {r : Refusal} {s : State} → n ≡ refusal_number r → s ≡ zero_state → Runs t order before after (record { completion = Err r; state = s })
   unfolding ran_of answered
-  short {s} h q = go (eqb (number_of work_limit t) 0) refl (leb (length order) (length before)) refl
+  refused {r} {s} h q = go (eqb (number_of work_limit t) 0) refl (leb (length order) (length before)) refl
     where
       same : after ≡ before
-      same = stays (λ z. omega arith)
+      same = stays (λ z. absurd (omega (arith, refusal_some r)))
 
-      go : (x : Bool) → eqb (number_of work_limit t) 0 ≡ x → (y : Bool) → leb (length order) (length before) ≡ y → Runs t order before after (record { completion = completion.Short; state = s })
-      go true a false b = record { result = rw (q, a, b); buffer = same ∙ rw (a, b); demand = demanded }
-      go true a true b = let z : ◌≡◌ {A = ℕ} 255 0 = sym h ∙ by_room ∙ rw (a, b) in absurd (omega arith)
+      go : (x : Bool) → eqb (number_of work_limit t) 0 ≡ x → (y : Bool) → leb (length order) (length before) ≡ y → Runs t order before after (record { completion = Err r; state = s })
+      go true a false b = let k : r ≡ Buffer = refusal_is (sym h ∙ by_room ∙ rw (a, b)) in record { result = rw (q, k, a, b); buffer = same ∙ rw (a, b); demand = demanded }
+      go true a true b = let z : refusal_number r ≡ 0 = sym h ∙ by_room ∙ rw (a, b) in absurd (omega (arith, refusal_some r))
       go false a y b =
-          let z : n ≡ number_of work_limit t = by_room ∙ rw a in
-          let l = number_small work_limit t in
-          absurd (let w : ⊥ = omega arith in w)
-
-  pub refused : {s : State} → (n ≡ 255 → ⊥) → (n ≡ 0 → ⊥) → s ≡ zero_state → Runs t order before after (record { completion = completion.Refused n; state = s })
-  unfolding ran_of answered
-  refused {s} h k q = go (eqb (number_of work_limit t) 0) refl (leb (length order) (length before)) refl
-    where
-      go : (x : Bool) → eqb (number_of work_limit t) 0 ≡ x → (y : Bool) → leb (length order) (length before) ≡ y
-          → Runs t order before after (record { completion = completion.Refused n; state = s })
-      go true a true b = absurd (k (by_room ∙ rw (a, b)))
-      go true a false b = absurd (h (by_room ∙ rw (a, b)))
-      go false a y b = let z : n ≡ number_of work_limit t = by_room ∙ rw a in record { result = rw (q, z, a); buffer = stays k ∙ rw a; demand = demanded }
+          let z : refusal_number r ≡ number_of work_limit t = sym h ∙ by_room ∙ rw a in
+          let k : r ≡ refusal_at (number_of work_limit t) = refusal_is (z ∙ sym (number_back _ (omega (arith, refusal_some r)) (omega (arith, number_small work_limit t)))) in
+          record { result = rw (q, k, a); buffer = same ∙ rw a; demand = demanded }
 
   -- Done, its own bytes are those of the run's state.
-  ran : {d : Decoded} → Bytes t → n ≡ 0 → d ≡ decoded_of c → d.state ≡ run base t order
+  pub ran : Bytes t → n ≡ 0 → decoded_of c ≡ Some (run base t order)
   unfolding run_bytes
-  ran y z o = decoded (run_fits t y order) o (g ∙ rw (sym e ∙ z))
+  ran y z = decoded (run_fits t y order) (g ∙ rw (sym e ∙ z))
 
-  pub done : {d : Decoded} → Bytes t → n ≡ 0 → d ≡ decoded_of c → Runs t order before after (record { completion = completion.Done; state = d.state })
+  pub done : {s : State} → n ≡ 0 → s ≡ run base t order → Runs t order before after (record { completion = Ok tt; state = s })
   unfolding ran_of answered run_answers
-  done {d} y z o = go (eqb (number_of work_limit t) 0) refl (leb (length order) (length before)) refl
+  done {s} z o = go (eqb (number_of work_limit t) 0) refl (leb (length order) (length before)) refl
     where
       go : (x : Bool) → eqb (number_of work_limit t) 0 ≡ x → (w : Bool) → leb (length order) (length before) ≡ w
-          → Runs t order before after (record { completion = completion.Done; state = d.state })
-      go true a true b = record { result = rw (ran y z o, a, b); buffer = f ∙ rw (sym e ∙ z, a, b); demand = demanded }
+          → Runs t order before after (record { completion = Ok tt; state = s })
+      go true a true b = record { result = rw (o, a, b); buffer = f ∙ rw (sym e ∙ z, a, b); demand = demanded }
       go true a false b = let k : ◌≡◌ {A = ℕ} 0 255 = sym z ∙ by_room ∙ rw (a, b) in absurd (omega arith)
       go false a w b = absurd (true_false _ (eq-eqb (number_of work_limit t) 0 (sym (by_room ∙ rw a) ∙ z)) a)
 

@@ -1,24 +1,25 @@
 -- What a run promises: how it ended, the state after it, the answers in the buffer, and how many each step waits for in another.
-use Rattle.std.specs.Prelude.{ℕ, List, map, ◌++◌, cond, ◌≡◌, length, take, drop, leb, eqb}
+use Rattle.std.specs.Prelude.{ℕ, List, map, ◌++◌, cond, ◌≡◌, length, take, drop, leb, eqb, Result, Ok, Err, ⊤}
+use Rattle.program.specs.declared.refusal.Refusal.{Refusal}
+use Rattle.program.specs.declared.refusal.Refusal.TheVariants.{Buffer}
+use Rattle.program.specs.Refusal.{refusal_at}
 use Rattle.program.specs.Table.{work_limit, number_of}
 use Rattle.rules.specs.declared.state.State.{State}
-use Rattle.rules.specs.declared.answer.Completion.{Completion}
-use Rattle.rules.specs.declared.answer.Completion.TheVariants.{Done, Refused, Short}
 use Rattle.rules.specs.declared.answer.Ran.{Ran}
 use Rattle.rules.specs.State.{answer_number, zero_state}
 use Rattle.rules.specs.Steps.{base}
 use Rattle.rules.specs.Runs.{run, answers, awaiteds}
 use Rattle.rules.specs.Demand3.{AtEveryPoint}
 
-abbrev ended : Completion → State → Ran
+abbrev ended : Result ⊤ Refusal → State → Ran
 ended completion s = record { completion = completion; state = s }
 
 -- The table's number comes first, then whether the buffer has room for an answer to each step.
 unfoldable pub ran_of : List ℕ → List ℕ → ℕ → Ran
 ran_of t order room =
-    let done = ended Done (run base t order) in
-    let short = ended Short zero_state in
-    let refused = ended (Refused (number_of work_limit t)) zero_state in
+    let done = ended (Ok tt) (run base t order) in
+    let short = ended (Err Buffer) zero_state in
+    let refused = ended (Err (refusal_at (number_of work_limit t))) zero_state in
     cond (eqb (number_of work_limit t) 0) (cond (leb (length order) room) done short) refused
 
 -- The answers stand at the buffer's start, what is past them stays; a run that is not done leaves it as it was.

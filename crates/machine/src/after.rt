@@ -2,21 +2,9 @@
 ghost use Rattle.std.specs.Prelude.{◌≡◌, true, ◌<◌, length};
 ghost use Rattle.rules.specs.State.{act};
 ghost use Rattle.encoding.specs.Decode.{state_of, fields_encode};
-ghost use Rattle.machine.specs.After.{entry};
 
 use encoding::activities::activity_at;
 use rules::state::Activity;
-
-// The entry of a number; of a number past the last entry, the last.
-pub fn entry_of(n: usize) -> usize
-    ensures value { result ≡ entry n }
-    ensures upper_bound { result < 64 }
-{
-    if n < 64 {
-        return n;
-    }
-    63
-}
 
 // An activity of the state that bytes encode.
 pub fn activity_in(bytes: &[u8], i: usize) -> Activity

@@ -1,20 +1,21 @@
-// The machine's calls by value: start, one step, the ready set, the standing sheet and whole runs. Each is the call in place, in bytes of its own.
+// The machine's calls by value: start, one step, the ready set, the standing sheet and whole runs. Each is the call in place, in bytes of its own: memory is fixed.
 #![tactic(auto)]
 
 ghost use Rattle.std.specs.Prelude.{◌≡◌};
 ghost use Rattle.rules.specs.Steps.{base, start, step, ready, registrations, registrations_number};
 ghost use Rattle.machine.specs.Ran.{Runs, Traces};
-ghost use Rattle.machine.specs.Numbers.{is_refusal, answer_of};
+ghost use Rattle.machine.specs.Numbers.{answer_of};
 
-use after::{activity_in, entry_of};
+use after::activity_in;
 use encoding::accumulators::accumulators_at;
 use encoding::numbers::{cells_at, number};
 use encoding::{decode, encode};
 use fields::activities::status_at;
+use moves::Taken;
 use parts::empty::{start_state, zero_state};
 use program::command::wide;
 use program::table::read_table;
-use rules::answer::{Answer, Completion, Ran, Ready, Stepped};
+use rules::answer::{Answer, Ran, Ready, Stepped};
 use rules::state::{State, Status};
 use sheet::sheet_of;
 use wellformed::check_state;
@@ -26,42 +27,34 @@ mod after; // after.rt: the entries that a step can have changed
 pub fn start(table: &[u8]) -> Stepped
     ensures { result ≡ start base table.now }
 {
-    let read = read_table(table);
-    if read.number != 0 {
-        return Stepped {
-            answer: Answer::Refused(read.number),
+    match read_table(table) {
+        Ok(_) => Stepped {
+            answer: Ok(Status::Running),
+            state: start_state(),
+        },
+        Err(refusal) => Stepped {
+            answer: Err(refusal),
             state: zero_state(),
-        };
-    }
-    Stepped {
-        answer: Answer::Accepted(Status::Running),
-        state: start_state(),
+        },
     }
 }
 
-// Whether a step's number turns it down.
-fn is_refusal(number: u8) -> bool
-    ensures { result ≡ is_refusal number }
+// The answer of a step that the call in place told so, after which the activity stands so.
+fn answer_of(told: Taken, status: Status) -> Answer
+    ensures { result ≡ answer_of told status }
 {
-    0 < number && number < 100
-}
-
-// The answer of a step with that number, after which the activity stands so.
-fn answer_of(number: u8, status: Status) -> Answer
-    ensures { result ≡ answer_of number status }
-{
-    if is_refusal(number) {
-        return Answer::Refused(number);
+    match told {
+        Ok(_) => Ok(status),
+        Err(refusal) => Err(refusal),
     }
-    Answer::Accepted(status)
 }
 
 // A step of an activity, whichever the host picks: numbers 1 to 17. A step can have changed the entries of two activities, and what is no activity.
 pub fn step(table: &[u8], s: State, activity: usize) -> Stepped
     ensures { result ≡ step base table.now s activity }
 {
-    let own = entry_of(activity);
-    let free = entry_of(wide(s.activities));
+    let own = activity.min(63);
+    let free = wide(s.activities).min(63);
     let mut acts = s.acts;
     let mut bytes = [0u8; 13776];
     encode(s, &mut bytes);
@@ -90,23 +83,25 @@ pub fn ready(table: &[u8], s: State) -> Ready
 {
     let mut bytes = [0u8; 13776];
     encode(s, &mut bytes);
-    let mut set: u64 = 0;
-    let number = calls::ready(table, &bytes, &mut set);
-    Ready { set, number }
+    calls::ready(table, &bytes)
 }
 
-// The standing sheet: numbers 1 to 13.
+// The standing sheet: numbers 1 to 13. An array of arrays by value, and its number beside it: the sheet of a call that is turned down is one of zeros.
 pub fn registrations(table: &[u8], s: State, number: &mut u8) -> [[u8; 16]; 64]
     ensures { (result ≡ registrations base table.now s) × (number.new ≡ registrations_number base table.now s) }
 {
     let mut bytes = [0u8; 13776];
     encode(s, &mut bytes);
-    let checked = check_state(table, &bytes);
-    *number = checked.number;
-    if checked.number != 0 {
-        return [[0u8; 16]; 64];
+    match check_state(table, &bytes) {
+        Ok(_) => {
+            *number = 0;
+            sheet_of(&bytes)
+        }
+        Err(refusal) => {
+            *number = refusal.number();
+            [[0u8; 16]; 64]
+        }
     }
-    sheet_of(&bytes)
 }
 
 // A whole run: the table is read once, and a step is taken for each byte of the order. Its answer's number goes into the buffer.
@@ -122,23 +117,14 @@ pub fn trace(table: &[u8], order: &[u8], answers: &mut [u8], counts: &mut [u8]) 
     ensures { Traces table.now order.now answers.old answers.new counts.old counts.new result }
 {
     let mut bytes = [0u8; 13776];
-    let number = calls::trace(table, order, answers, counts, &mut bytes);
-    if number == 255 {
-        return Ran {
-            completion: Completion::Short,
+    match calls::trace(table, order, answers, counts, &mut bytes) {
+        Ok(()) => Ran {
+            completion: Ok(()),
+            state: decode(&bytes).unwrap(),
+        },
+        Err(refusal) => Ran {
+            completion: Err(refusal),
             state: zero_state(),
-        };
-    }
-    if number != 0 {
-        return Ran {
-            completion: Completion::Refused(number),
-            state: zero_state(),
-        };
-    }
-    let done = decode(&bytes);
-    let state = done.state;
-    Ran {
-        completion: Completion::Done,
-        state,
+        },
     }
 }

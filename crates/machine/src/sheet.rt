@@ -9,10 +9,8 @@ pub fn sheet_of(state: &[u8]) -> [[u8; 16]; 64]
     ensures { Reads sheet_of state.now result }
 {
     let mut rows = [[0u8; 16]; 64];
-    let mut i: usize = 0;
-    while i < 64 {
+    for i in 0..64 {
         rows[i] = sheet_row(state, i);
-        i += 1;
     }
     rows
 }

@@ -1,5 +1,5 @@
 -- An activity that stops.
-use Rattle.std.proofs.Common.{◌≡◌, ℕ, false, leb, List}
+use Rattle.std.proofs.Common.{◌≡◌, ℕ, false, leb, List, refl}
 use Rattle.program.specs.Bodies.{Program}
 use Rattle.program.specs.declared.command.Command.{Command}
 use Rattle.rules.specs.declared.state.Fault.{Fault}
@@ -19,8 +19,8 @@ pub stops : {b b₁ b₂ b₃ : List ℕ} {i : ℕ} (st : Status) → WritesAct 
     → WritesAct (λ (a : Activity). stopped a st) b b₃ i
 stops st f g h = then (then f g) h
 
-pub failed : {b b₁ b₂ : List ℕ} {p : Program} {s : State} {command : Command} {i work k r : ℕ} (f : Fault) → Lent b s → Standing p s i work command → false ≡ leb work s.steps
-    → fault p s i ≡ fault_number f → WritesAct (λ (a : Activity). stopped a (Faulted f)) b b₁ i → Counts b₁ b₂ k → r ≡ status_answer (Faulted f) → Turned p s i b₂ r
+pub failed : {b b₁ b₂ : List ℕ} {p : Program} {s : State} {command : Command} {i work k : ℕ} (f : Fault) → Lent b s → Standing p s i work command → false ≡ leb work s.steps
+    → fault p s i ≡ fault_number f → WritesAct (λ (a : Activity). stopped a (Faulted f)) b b₁ i → Counts b₁ b₂ k → Turned p s i b₂ (status_answer (Faulted f))
 unfolding with_act
-failed {s = s} {i = i} f l w left e t n q =
-    done_failed w f e left (n.counts _ (t.writes s l (few w)) (steps_room w left)) q
+failed {s = s} {i = i} f l w left e t n =
+    done_failed w f e left (n.counts _ (t.writes s l (few w)) (steps_room w left)) refl

@@ -1,21 +1,9 @@
 -- A step is counted, and the top body goes on.
-use Rattle.std.proofs.Common.{◌≡◌, ℕ, ◌+◌, ◌-◌, ◌%◌, ◌^◌, ◌<◌, List, refl, ◌∙◌, arith}
+use Rattle.std.proofs.Common.{◌≡◌, ℕ, ◌+◌, ◌-◌, ◌%◌, ◌^◌, ◌<◌, List, ◌∙◌, arith}
 use Rattle.rules.specs.declared.state.Activity.{Activity}
-use Rattle.rules.specs.declared.state.State.{State}
 use Rattle.rules.specs.State.{act, frame, top}
-use Rattle.fields.specs.Lent.{Reads, Writes, ReadsAct, WritesAct, with_act, with_steps, with_frame, onward}
+use Rattle.fields.specs.Lent.{ReadsAct, WritesAct, with_act, with_steps, with_frame, onward}
 use Rattle.moves.specs.Moves.{Counts, GoesOn}
-
-pub count_on : {b c : List ℕ} {n m : ℕ} → Reads (λ (s : State). s.steps) b n → m ≡ (n + 1) % 2 ^ 16 → Writes (λ (s : State). with_steps s m) b c → Counts b c 0
-count_on {b} {c} {n} {m} f q w =
-    record {
-      number = refl;
-      counts =
-          λ s l h.
-          let e : n ≡ s.steps = f.reads s l in
-          let z : m ≡ s.steps + 1 = omega arith in
-          rw z at (w.writes s l);
-    }
 
 -- The stack's depth is read, the offset at its top, and that and so many bytes are written.
 pub went_on : {b b₁ c : List ℕ} {i d o size n r : ℕ} → ReadsAct (λ (a : Activity). a.depth) b i d

@@ -5,3 +5,4 @@ pub mod Failing
 pub mod Reading
 pub mod Ranges
 pub mod Exceeding
+pub mod Searching

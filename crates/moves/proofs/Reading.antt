@@ -31,6 +31,6 @@ module _ {b : List ℕ} {s : State} {i n e x : ℕ} (l : Lent b s) (j : i < 64) 
     unfolding read_fault
     others h = rw (bound_name, ne_eqb (accumulator s (bound (act s i) n - 1)).owner i (λ q. h (owner ∙ q)))
 
-    pub own_name : {y : Bool} → o ≡ i → y ≡ holds_some (act s i) → cond y 7 0 ≡ read_fault (env_of s) i (act s i) n
+    pub own_name : {y z : Bool} → o ≡ i → y ≡ holds_some (act s i) → y ≡ z → cond z 7 0 ≡ read_fault (env_of s) i (act s i) n
     unfolding read_fault
-    own_name h k = rw (bound_name, eq-eqb (accumulator s (bound (act s i) n - 1)).owner i (sym owner ∙ h), k)
+    own_name h k q = rw (bound_name, eq-eqb (accumulator s (bound (act s i) n - 1)).owner i (sym owner ∙ h), ← k, q)

@@ -1,15 +1,18 @@
 -- A command that is carried out: number 17, and the step.
-use Rattle.std.proofs.Common.{◌≡◌, ℕ, ◌+◌, ◌-◌, ◌*◌, ◌<◌, ◌≤◌, Bool, true, false, cond, ◌&&◌, eqb, leb, ◌⊎◌, List, sym, refl, ap, ◌∙◌, subst, inl, inr, add_assoc, arith, ne_eqb, leb-false}
+use Rattle.std.proofs.Common.{◌≡◌, ℕ, ◌+◌, ◌-◌, ◌*◌, ◌<◌, ◌≤◌, Bool, true, false, cond, ◌&&◌, eqb, leb, ◌⊎◌, List, Option, Result, Ok, Err, IsErr, IsErrAnd, sym, refl, ap, ◌∙◌, subst, inl, inr, add_assoc, arith, ne_eqb, leb-false}
+use Rattle.std.specs.Bool.{⊤}
 use Rattle.program.specs.Command.{opcode, is_end, width, held, names, named}
 use Rattle.program.specs.Bodies.{Program, program_of}
 use Rattle.program.specs.Scan.{scan}
 use Rattle.program.specs.Count.{work_of}
+use Rattle.program.specs.Refusal.{refusal_number}
+use Rattle.program.specs.declared.refusal.Refusal.{Refusal}
+use Rattle.program.specs.declared.refusal.Refusal.TheVariants.{Spent}
 use Rattle.program.specs.declared.command.Command.{Command}
 use Rattle.program.proofs.ShapeLaws.{accepted}
 use Rattle.rules.specs.declared.state.Fault.{Fault}
 use Rattle.rules.specs.declared.state.Activity.{Activity}
 use Rattle.rules.specs.declared.state.State.{State}
-use Rattle.rules.specs.declared.answer.Answer.TheVariants.{Accepted, Refused}
 use Rattle.rules.specs.declared.answer.Stepped.{Stepped}
 use Rattle.rules.specs.State.{bound, fault_number, fault_of, act, top, is_ended, is_at_barrier, status_answer, answer_number}
 use Rattle.rules.specs.declared.state.Status.{Status}
@@ -27,8 +30,21 @@ use Rattle.rules.proofs.WellFormedFacts.{Facts, ActivityFacts, facts}
 use Rattle.moves.specs.Exceeding.{overfull, overtakes, exceeds_at}
 use Rattle.places.proofs.Places.{sound_here, next_is, next_small}
 use Rattle.moves.proofs.Exceeding.{measured, exceeds_at_lem}
-use Rattle.fields.specs.Lent.{Lent, with_act, with_steps, onward}
-use Rattle.moves.specs.Moves.{Standing, Turned, GoesOn}
+use Rattle.fields.specs.Lent.{Lent, Reads, with_act, with_steps, onward}
+use Rattle.moves.specs.Moves.{Standing, Turned, Turns, GoesOn, taken_number, unspent}
+
+-- What the test of the steps answers.
+err_spent : (x : Bool) {r : Result ⊤ Refusal} {e : Refusal} → r ≡ cond x (Err Spent) (Ok tt) → r ≡ Err e → (true ≡ x) × (refusal_number e ≡ 17)
+err_spent true {e = e} q z = let k : e ≡ Spent = cc in (refl, rw k)
+err_spent false q z = absurd (cc)
+
+ok_left : (x : Bool) {r : Result ⊤ Refusal} {u : ⊤} → r ≡ cond x (Err Spent) (Ok tt) → r ≡ Ok u → false ≡ x
+ok_left true q z = absurd (cc)
+ok_left false q z = refl
+
+-- A step is left.
+pub left : {b : List ℕ} {s : State} (work : ℕ) {r : Result ⊤ Refusal} {u : ⊤} → Lent b s → Reads (unspent work) b r → r ≡ Ok u → false ≡ leb work s.steps
+left {s = s} work l f e = ok_left (leb work s.steps) (f.reads s l) e
 
 faulty : (f : Fault) → fault_number f ≡ 0 → ⊥
 faulty f e = let h = (fault_range f).0 in omega arith
@@ -125,8 +141,17 @@ module _ {p : Program} {s : State} {i work : ℕ} {c : Command} (w : Standing p 
   pub over : {b : List ℕ} → Lent b s → true ≡ exceeds base p s (effect p s i) → Turned p s i b 17
   unfolding advance
   over {b} l x =
-      let q : advance base p s i ≡ stepped (Refused 17) s = rw (w.goes, sym x) in
+      let q : advance base p s i ≡ stepped (Err Spent) s = rw (w.goes, sym x) in
       record { state = subst (λ (r : Stepped). Lent b r.state) (sym q) l; number = ap (λ (r : Stepped). answer_number r.answer) (sym q) }
+
+  -- No step is left.
+  pub turned_down : {b : List ℕ} {r : Result ⊤ Refusal} {e : Refusal} → Lent b s → Reads (unspent work) b r → r ≡ Err e → (t : Result (Option Fault) Refusal) → IsErr t × IsErrAnd t (λ x. x ≡ e)
+      → Turned p s i b (taken_number t)
+  turned_down l f e (Ok x) g = absurd g.1
+  turned_down {b = b} l f e (Err x) g =
+      let z = err_spent (leb work s.steps) (f.reads s l) e in
+      let m : refusal_number x ≡ 17 = ap refusal_number g.1 ∙ z.1 in
+      subst (λ (n : ℕ). Turned p s i b n) (sym m) (over l (spent z.0))
 
   -- It does not, and the command meets no fault.
   module _ (clear : fault p s i ≡ 0) (fits : false ≡ exceeds base p s (effect p s i)) where
@@ -137,7 +162,7 @@ module _ {p : Program} {s : State} {i work : ℕ} {c : Command} (w : Standing p 
     unfolding advance
     done {b} {r} l n =
         let e = effect_of p (env_of s) i (act s i) c (at p s i).inner in
-        let q : advance base p s i ≡ stepped (Accepted e.self.status) (applied s i e) = rw (w.goes, sym fits, effect_here) in
+        let q : advance base p s i ≡ stepped (Ok e.self.status) (applied s i e) = rw (w.goes, sym fits, effect_here) in
         record { state = subst (λ (t : Stepped). Lent b t.state) (sym q) l; number = n ∙ ap (λ (t : Stepped). answer_number t.answer) (sym q) }
 
     -- An effect on the activity alone.
@@ -155,8 +180,13 @@ module _ {p : Program} {s : State} {i work : ℕ} {c : Command} (w : Standing p 
       let m : fault p s i ≡ 0 → ⊥ = λ z. faulty f (sym e ∙ z) in
       let x : false ≡ exceeds base p s (effect p s i) = asks refl (rw (sym left, ne_eqb (fault p s i) 0 m)) in
       let y : effect p s i ≡ failing (act s i) (Faulted f) = effect_failed p s i m ∙ ap (λ (k : Fault). failing (act s i) (Faulted k)) (ap fault_of e ∙ fault_there f) in
-      let q : advance base p s i ≡ stepped (Accepted (Faulted f)) (applied s i (failing (act s i) (Faulted f))) = rw (w.goes, sym x, y) in
+      let q : advance base p s i ≡ stepped (Ok (Faulted f)) (applied s i (failing (act s i) (Faulted f))) = rw (w.goes, sym x, y) in
       record { state = subst (λ (t : Stepped). Lent b t.state) (sym q) l; number = n ∙ ap (λ (t : Stepped). answer_number t.answer) (sym q) }
+
+-- No step is left to the function of a command.
+pub turns_down : {command : Command} {b : List ℕ} {work i : ℕ} {r : Result ⊤ Refusal} {e : Refusal} → Reads (unspent work) b r → r ≡ Err e → (t : Result (Option Fault) Refusal)
+    → IsErr t × IsErrAnd t (λ x. x ≡ e) → Turns command b b work i (taken_number t)
+turns_down f e t g = record { turns = λ p s l w. turned_down w l f e t g }
 
 -- What `turn` knows is enough: an accepted table, a well-formed state, and who is not turned down.
 pub standing : (t : List ℕ) (s : State) (i work : ℕ) (c : Command) → scan t ≡ 0 → well_formed 65535 (program_of t) s ≡ true → refusal (program_of t) s i ≡ 0

@@ -1,9 +1,12 @@
 -- What is known where a command is carried out in lent bytes, and what is promised of it.
-use Rattle.std.specs.Prelude.{◌≡◌, ℕ, ◌+◌, ◌*◌, ◌^◌, ◌<◌, ◌≤◌, true, false, List}
+use Rattle.std.specs.Prelude.{◌≡◌, ℕ, ◌+◌, ◌*◌, ◌^◌, ◌<◌, ◌≤◌, true, false, cond, nat_le, List, Option, None, Some, Result, Ok, Err, ⊤}
 use Rattle.program.specs.Command.{is_end, width, held, names}
 use Rattle.program.specs.Bodies.{Program, program_of}
 use Rattle.program.specs.Count.{work_of}
 use Rattle.program.specs.declared.command.Command.{Command}
+use Rattle.program.specs.declared.refusal.Refusal.{Refusal}
+use Rattle.program.specs.declared.refusal.Refusal.TheVariants.{Spent}
+use Rattle.program.specs.Refusal.{refusal_number}
 use Rattle.rules.specs.declared.state.Fault.{Fault}
 use Rattle.rules.specs.declared.state.State.{State}
 use Rattle.rules.specs.State.{fault_number, act, top, bound, answer_number}
@@ -12,8 +15,26 @@ use Rattle.rules.specs.Tree.{next_offset}
 use Rattle.rules.specs.Faults.{read_fault}
 use Rattle.rules.specs.Effects.{with_top, env_of}
 use Rattle.rules.specs.Steps.{base, at, fault, refusal, advance}
-use Rattle.places.specs.Known.{Known}
 use Rattle.fields.specs.Lent.{Lent, with_act, with_steps, onward}
+
+-- ANSWERS
+
+-- The fault's number, 0 for none.
+abbrev pub fault_in : Option Fault → ℕ
+fault_in None = 0
+fault_in (Some f) = fault_number f
+
+-- "The answer is 0 for a step, 100 plus f for fault f, or the number above."
+abbrev pub taken_number : Result (Option Fault) Refusal → ℕ
+taken_number (Ok None) = 0
+taken_number (Ok (Some f)) = 100 + fault_number f
+taken_number (Err r) = refusal_number r
+
+-- Number 17 where no step is left.
+abbrev pub unspent : ℕ → State → Result ⊤ Refusal
+unspent work s = cond (nat_le work s.steps) (Err Spent) (Ok tt)
+
+-- COMMANDS
 
 -- Activity i of a well-formed state stands on a command and is not turned down; where the command after it stands; and room for one body more.
 pub record Standing (p : Program) (s : State) (i work : ℕ) (c : Command) : Type 0 where
@@ -37,8 +58,8 @@ pub record Turns (command : Command) (b c : List ℕ) (work i r : ℕ) : Type 0 
   pub turns : (p : Program) (s : State) → Lent b s → Standing p s i work command → Turned p s i c r
 
 -- The same of a function that reads the table.
-pub record TurnsIn (t starts : List ℕ) (command : Command) (b c : List ℕ) (work i r : ℕ) : Type 0 where
-  pub turns : Known t starts → (s : State) → Lent b s → Standing (program_of t) s i work command → Turned (program_of t) s i c r
+pub record TurnsIn (t : List ℕ) (command : Command) (b c : List ℕ) (work i r : ℕ) : Type 0 where
+  pub turns : (s : State) → Lent b s → Standing (program_of t) s i work command → Turned (program_of t) s i c r
 
 -- One step more is counted.
 pub record Counts (b c : List ℕ) (r : ℕ) : Type 0 where

@@ -1,48 +1,57 @@
 // What every command's function does in the lent bytes: number 17 where no step is left, a step counted, the place after a command, and a fault.
 #![tactic(auto)]
 
-ghost use Rattle.std.specs.Prelude.{nat_le};
-ghost use Rattle.rules.specs.declared.state.State.{State};
 ghost use Rattle.rules.specs.declared.state.Activity.{Activity};
 ghost use Rattle.fields.specs.Lent.{Reads, WritesAct};
 ghost use Rattle.rules.specs.Effects.{stopped};
-ghost use Rattle.moves.specs.Moves.{Counts, GoesOn, Fails};
+ghost use Rattle.moves.specs.Moves.{Counts, GoesOn, Fails, taken_number, unspent};
 
 use fields::activities::{clear_own, depth_at, put_depth, put_status};
 use fields::counts::{put_steps, steps_of};
 use fields::frames::{offset_at, put_offset};
-use parts::numbers::status_answer;
+use program::refusal::Refusal;
 use rules::state::{Fault, Status};
 
 pub mod faults; // faults.rt: the fault of READ and RESET
 
-// Whether no step is left.
-pub fn is_spent(state: &[u8], work: u64) -> bool
-    ensures { Reads (λ (s : State). nat_le work s.steps) state.now result }
+// A turn's work, its lent bytes and its activity stay three parameters of each command's function: the functions of `fields` take the last two by themselves,
+// so a struct of the three would only be taken apart again in every line.
+
+// What a command's function answers: a step, with the fault that it meets, or why it is turned down.
+pub type Taken = Result<Option<Fault>, Refusal>;
+
+// Whether a step is left.
+pub fn unspent(state: &[u8], work: u64) -> Result<(), Refusal>
+    ensures { Reads (unspent work) state.now result }
 {
-    work <= steps_of(state) as u64
+    if work <= steps_of(state) as u64 {
+        return Err(Refusal::Spent);
+    }
+    Ok(())
 }
 
 // A step is counted.
-pub fn counted(state: &mut [u8]) -> u8
-    ensures { Counts state.old state.new result }
+fn count(state: &mut [u8])
+    ensures { Counts state.old state.new 0 }
 {
-    let steps = steps_of(state);
-    put_steps(state, std::num::wrapping_add_u16(steps, 1));
-    0
+    put_steps(state, steps_of(state).wrapping_add(1));
+}
+
+// A step is counted, and it meets no fault.
+pub fn counted(state: &mut [u8]) -> Taken
+    ensures { Counts state.old state.new (taken_number result) }
+{
+    count(state);
+    Ok(None)
 }
 
 // The top body goes on after its command, so many bytes on.
-pub fn go_on(state: &mut [u8], i: usize, size: u16) -> u8
-    ensures { GoesOn state.old state.new i size result }
+pub fn go_on(state: &mut [u8], i: usize, size: u16) -> Taken
+    ensures { GoesOn state.old state.new i size (taken_number result) }
 {
-    let depth = depth_at(state, i) as usize;
-    if depth == 0 {
-        return 0;
-    }
-    let at = depth - 1;
-    let next = std::num::wrapping_add_u16(offset_at(state, i, at), size);
-    put_offset(state, i, at, next);
+    let at = (depth_at(state, i) as usize).saturating_sub(1);
+    let offset = offset_at(state, i, at);
+    put_offset(state, i, at, offset.wrapping_add(size));
     counted(state)
 }
 
@@ -56,14 +65,11 @@ pub fn stop(state: &mut [u8], i: usize, status: Status)
 }
 
 // A fault: the activity stops, and its step is counted.
-pub fn fail(work: u64, state: &mut [u8], i: usize, f: Fault) -> u8
-    ensures { Fails f state.old state.new work i result }
+pub fn fail(work: u64, state: &mut [u8], i: usize, f: Fault) -> Taken
+    ensures { Fails f state.old state.new work i (taken_number result) }
 {
-    if is_spent(state, work) {
-        return 17;
-    }
-    let status = Status::Faulted(f);
-    stop(state, i, status);
-    counted(state);
-    status_answer(status)
+    unspent(state, work)?;
+    stop(state, i, Status::Faulted(f));
+    count(state);
+    Ok(Some(f))
 }

@@ -4,62 +4,37 @@ ghost use Rattle.rules.specs.State.{is_ended, is_at_barrier};
 ghost use Rattle.rules.specs.Clocks.{is_held, is_live};
 ghost use Rattle.rules.specs.WellFormed.{is_no_hold};
 
-use super::numbers::registration_number;
+use super::empty::no_hold;
 use rules::state::{Hold, Registration, Status};
 
 // A faulted activity counts as ended.
 pub fn is_ended(status: Status) -> bool
     ensures { result ≡ is_ended status }
 {
-    match status {
-        Status::Running => false,
-        Status::AtBarrier => false,
-        Status::Ended => true,
-        Status::Faulted(_) => true,
-    }
+    matches!(status, Status::Ended | Status::Faulted(_))
 }
 
 pub fn is_at_barrier(status: Status) -> bool
     ensures { result ≡ is_at_barrier status }
 {
-    match status {
-        Status::Running => false,
-        Status::AtBarrier => true,
-        Status::Ended => false,
-        Status::Faulted(_) => false,
-    }
+    matches!(status, Status::AtBarrier)
 }
 
 pub fn is_held(registration: Registration) -> bool
     ensures { result ≡ is_held registration }
 {
-    match registration {
-        Registration::Free => false,
-        Registration::Live => true,
-        Registration::Quiesced => true,
-    }
+    matches!(registration, Registration::Live | Registration::Quiesced)
 }
 
 pub fn is_live(registration: Registration) -> bool
     ensures { result ≡ is_live registration }
 {
-    match registration {
-        Registration::Free => false,
-        Registration::Live => true,
-        Registration::Quiesced => false,
-    }
+    matches!(registration, Registration::Live)
 }
 
 // Whether a hold is all 0.
 pub fn is_no_hold(hold: Hold) -> bool
     ensures { result ≡ is_no_hold hold }
 {
-    if hold.phase != 0 {
-        return false;
-    }
-    if hold.clock != 0 {
-        return false;
-    }
-    let registration = hold.registration;
-    registration_number(registration) == 0
+    hold == no_hold()
 }

@@ -1,4 +1,4 @@
-// Unused entries, the state of zeros and the start state.
+// Unused entries, the state of zeros and the start state, under the names of their definitions.
 ghost use Rattle.std.specs.Prelude.{◌≡◌};
 ghost use Rattle.rules.specs.State.{no_frame, no_hold, no_activity, no_accumulator, zero_state};
 ghost use Rattle.rules.specs.Steps.{start_state};

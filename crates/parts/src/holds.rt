@@ -10,18 +10,16 @@ pub fn quiesced(registration: Registration) -> Registration
     ensures { result ≡ quiesced registration }
 {
     match registration {
-        Registration::Free => Registration::Free,
         Registration::Live => Registration::Quiesced,
-        Registration::Quiesced => Registration::Quiesced,
+        other => other,
     }
 }
 
 pub fn quiesce(hold: Hold) -> Hold
     ensures { result ≡ quiesce hold }
 {
-    let registration = hold.registration;
     Hold {
-        registration: quiesced(registration),
+        registration: quiesced(hold.registration),
         ..hold
     }
 }
@@ -31,9 +29,8 @@ pub fn revived(registration: Registration) -> Registration
     ensures { result ≡ revived registration }
 {
     match registration {
-        Registration::Free => Registration::Free,
-        Registration::Live => Registration::Live,
         Registration::Quiesced => Registration::Live,
+        other => other,
     }
 }
 
@@ -41,8 +38,5 @@ pub fn revived(registration: Registration) -> Registration
 pub fn lends(mask: u8, name: usize) -> bool
     ensures { result ≡ bit mask name }
 {
-    if name < 8 {
-        return (mask >> name) % 2 == 1;
-    }
-    false
+    name < 8 && (mask >> name) % 2 == 1
 }

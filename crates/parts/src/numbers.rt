@@ -1,26 +1,11 @@
-// The paper's number for each value of an enum.
+// Enums by the papers' numbers, and the number of an answer.
 ghost use Rattle.std.specs.Prelude.{◌≡◌};
-ghost use Rattle.rules.specs.State.{fault_number, fault_of, registration_number, operator_number, operator_of, status_answer, answer_number};
+ghost use Rattle.rules.specs.State.{fault_of, operator_of, status_answer, answer_number};
 
 use rules::answer::Answer;
-use rules::state::{Fault, Operator, Registration, Status};
+use rules::state::{Fault, Operator, Status};
 
-pub fn fault_number(fault: Fault) -> u8
-    ensures { result ≡ fault_number fault }
-{
-    match fault {
-        Fault::F1 => 1,
-        Fault::F2 => 2,
-        Fault::F3 => 3,
-        Fault::F4 => 4,
-        Fault::F5 => 5,
-        Fault::F6 => 6,
-        Fault::F7 => 7,
-        Fault::F8 => 8,
-    }
-}
-
-// The fault of a number from 1 on.
+// The fault of a number from 1 on, and F1 of any other: the definition is total, so that no caller meets an error such as TryFrom's.
 pub fn fault_of(number: u8) -> Fault
     ensures { result ≡ fault_of number }
 {
@@ -36,26 +21,7 @@ pub fn fault_of(number: u8) -> Fault
     }
 }
 
-pub fn registration_number(registration: Registration) -> u8
-    ensures { result ≡ registration_number registration }
-{
-    match registration {
-        Registration::Free => 0,
-        Registration::Live => 1,
-        Registration::Quiesced => 2,
-    }
-}
-
-pub fn operator_number(operator: Operator) -> u8
-    ensures { result ≡ operator_number operator }
-{
-    match operator {
-        Operator::Sum => 0,
-        Operator::Minimum => 1,
-        Operator::Maximum => 2,
-    }
-}
-
+// The operator of a number up to 2, and the sum of any other: total too, and by its own definition, as the registrations of `encoding` are by theirs.
 pub fn operator_of(number: u8) -> Operator
     ensures { result ≡ operator_of number }
 {
@@ -66,24 +32,22 @@ pub fn operator_of(number: u8) -> Operator
     }
 }
 
-// 0 for a step, 100 plus f for fault f.
+// 0 for a step, 100 plus f for fault f: the paper's numbers, by the definition.
 pub fn status_answer(status: Status) -> u8
     ensures { result ≡ status_answer status }
 {
     match status {
-        Status::Running => 0,
-        Status::AtBarrier => 0,
-        Status::Ended => 0,
-        Status::Faulted(fault) => 100 + fault_number(fault),
+        Status::Running | Status::AtBarrier | Status::Ended => 0,
+        Status::Faulted(fault) => 100 + fault as u8,
     }
 }
 
-// The number of an answer, for a host that steps by value.
+// The number of an answer, for a host that steps by value: the paper's, by the definition, which no derive gives.
 pub fn answer_number(answer: Answer) -> u8
     ensures { result ≡ answer_number answer }
 {
     match answer {
-        Answer::Accepted(status) => status_answer(status),
-        Answer::Refused(number) => number,
+        Ok(status) => status_answer(status),
+        Err(refusal) => refusal.number(),
     }
 }

@@ -8,9 +8,9 @@ pub fn reduce(operator: Operator, x: u32, y: u32) -> u32
     ensures { result ≡ reduce operator x y }
 {
     match operator {
-        Operator::Sum => std::num::wrapping_add_u32(x, y),
-        Operator::Minimum => if x <= y { x } else { y },
-        Operator::Maximum => if x <= y { y } else { x },
+        Operator::Sum => x.wrapping_add(y),
+        Operator::Minimum => x.min(y),
+        Operator::Maximum => x.max(y),
     }
 }
 
@@ -18,9 +18,8 @@ pub fn new_value(operator: Operator) -> u32
     ensures { result ≡ new_value operator }
 {
     match operator {
-        Operator::Sum => 0,
-        Operator::Minimum => 4294967295,
-        Operator::Maximum => 0,
+        Operator::Sum | Operator::Maximum => 0,
+        Operator::Minimum => u32::MAX,
     }
 }
 

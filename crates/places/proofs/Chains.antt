@@ -19,7 +19,7 @@ use Rattle.rules.specs.Waiting.{unended_below, unended_inside}
 use Rattle.rules.proofs.Tests.{decide, true_false, not-true}
 use Rattle.rules.proofs.Search.{some_below_all, chain_above, chain_step}
 use Rattle.rules.proofs.Delivered.{unended_faultless}
-use Rattle.rules.proofs.Counting.{counted, uncounted, last, count_alike, count_none}
+use Rattle.rules.proofs.Counting.{counted, uncounted, count_alike, count_none}
 use Rattle.places.specs.Rooted.{Rooted}
 use Rattle.places.proofs.Searches.{some_more}
 
@@ -119,14 +119,6 @@ module _ (s : State) (r : Rooted s) (w first : ℕ) {marks : List Bool} {count :
 
         pub passed_faulted : v ≡ true → Passed s w first (set marks x b) count true (x + 1)
         passed_faulted n = passed_on_lem same_count (fault_looked k) (rw n)
-
--- All are passed.
-module _ (s : State) (w first : ℕ) {marks : List Bool} {count : ℕ} {found : Bool} {x : ℕ} (p : Passed s w first marks count found x) (h : x ≤ s.activities) (l : s.activities ≤ x) where
-  pub all_counted : count ≡ count_below s.activities (unended_inside s w first)
-  all_counted = last (unended_inside s w first) x s.activities count h l p.counts
-
-  pub all_searched : found ≡ some_below s.activities (faulted_inside s w first)
-  all_searched = let q : x ≡ s.activities = omega arith in p.finds ∙ ap (λ (n : ℕ). some_below n (faulted_inside s w first)) q
 
 -- ALL DESCENDANTS
 

@@ -8,11 +8,10 @@ use lib.ListN.{length, get_or, drop}
 use lib.Dec.{ltb}
 use borrow.Author.Tests.{ltb-true}
 use Rattle.program.specs.Command.{width, held, is_end}
-use Rattle.program.specs.Reading.{read}
+use Rattle.program.specs.Reading.{read, whole}
 use Rattle.program.specs.Bodies.{Body, program_of, from, head_of, tail_of}
 use Rattle.program.specs.Scan.{scan, layout_of}
 use Rattle.program.specs.declared.command.Command.TheVariants.{End}
-use Rattle.program.specs.declared.reading.Reading.TheVariants.{Whole}
 use Rattle.program.proofs.Basic.{and_true}
 use Rattle.program.proofs.Shape.{Sound, stride}
 use Rattle.program.proofs.ShapeListed.{passes}
@@ -51,11 +50,11 @@ module _ (t : List ℕ) (ok : scan t ≡ 0) (f : Frame) (on : is_placed (program
   code_inside = let h = start_inside t ok f.body body_counted in omega arith
 
   -- What is read there, and after it the commands that belong to it.
-  pub read_here : read (drop f.offset (drop (get_or (layout_of t).starts f.body 0) t)) ≡ Whole (here (program_of t) f).command (width (here (program_of t) f).command)
+  pub read_here : read (drop f.offset (drop (get_or (layout_of t).starts f.body 0) t)) ≡ whole (here (program_of t) f).command (width (here (program_of t) f).command)
   read_here = read_code t ok f.body body_counted f.offset left_here
 
   pub read_inner : (j : ℕ) → j < length (here (program_of t) f).inner
-      → read (drop (f.offset + width (here (program_of t) f).command + 2 * j) (drop (get_or (layout_of t).starts f.body 0) t)) ≡ Whole (get_or (here (program_of t) f).inner j End) 2
+      → read (drop (f.offset + width (here (program_of t) f).command + 2 * j) (drop (get_or (layout_of t).starts f.body 0) t)) ≡ whole (get_or (here (program_of t) f).inner j End) 2
   read_inner = read_code_inner t ok f.body body_counted f.offset left_here
 
   -- An offset is small.

@@ -30,5 +30,5 @@ module _ {t : List ℕ} {starts : List ℕ} {s : State} (fit : Fit t starts s) w
     stack_of = stacked (program_of t) s.activities (act s i) (stack_back (program_of t) s.activities (act s i) own.stack) (own.bodied runs)
 
     -- It can be asked whether it waits.
-    pub placed : Placed t starts s (act s i)
-    placed = record { known = fit.known; stack = stack_of; rooted = rooted }
+    pub placed : Placed t s (act s i)
+    placed = record { stack = stack_of; rooted = rooted }

@@ -4,7 +4,6 @@ use Rattle.program.specs.Bodies.{program_of}
 use Rattle.rules.specs.declared.state.Activity.{Activity}
 use Rattle.rules.specs.declared.state.State.{State}
 use Rattle.rules.specs.Tree.{spawner_of}
-use Rattle.places.specs.Known.{Known}
 use Rattle.places.specs.Stack.{Stacked}
 
 -- "a spawner is not lower than its child" is not so.
@@ -13,7 +12,6 @@ pub record Rooted (s : State) : Type 0 where
   pub falls : (x : ℕ) → 0 < x → x < s.activities → spawner_of s x < x
 
 -- An activity that has a stack, beside a state in which spawners are lower than their children.
-pub record Placed (t : List ℕ) (starts : List ℕ) (s : State) (a : Activity) : Type 0 where
-  pub known : Known t starts
+pub record Placed (t : List ℕ) (s : State) (a : Activity) : Type 0 where
   pub stack : Stacked (program_of t) a
   pub rooted : Rooted s

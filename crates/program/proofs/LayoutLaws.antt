@@ -8,14 +8,16 @@ use native.Mathlib.Numerals.{add-one}
 use lib.ListN.{length, get_or, take, drop, set, replicate, length-set, length-drop, take-append-drop, drop_of_length-le}
 use lib.Seq.{drop-drop, take-suc-set, drop-set-lt}
 use lib.Dec.{leb}
-use borrow.Author.Tests.{eq-eqb, ne_eqb, leb-true}
-use Rattle.program.specs.Reading.{read, and_on, readings_after, readings, wholes, commands_of}
+use borrow.Author.Tests.{eq-eqb, leb-true}
+use Rattle.std.specs.Prelude.{Ok, Err}
+use Rattle.program.specs.Refusal.{refusal_number, answered}
+use Rattle.program.proofs.Refusals.{refusal_some, answered_refusal}
+use Rattle.program.specs.Reading.{Reading, read, and_on, readings_after, readings, wholes, commands_of}
 use Rattle.program.specs.Bodies.{after_end}
 use Rattle.program.specs.Scan.{verdict, fits_length, fits_bodies, scan, starts_from, layout_of}
-use Rattle.program.specs.Inner.Scanned.{opening, extent_of, refused_by, scanned_of}
-use Rattle.program.specs.declared.reading.Reading.{Reading}
-use Rattle.program.specs.declared.reading.Reading.TheVariants.{Whole, Unknown, Cut, Outside}
-use Rattle.program.specs.declared.scan.Extent.TheVariants.{Refused, Ended}
+use Rattle.program.specs.Inner.Scanned.{opening, extent_of}
+use Rattle.program.specs.declared.refusal.Refusal.{Refusal}
+use Rattle.program.specs.declared.refusal.Refusal.TheVariants.{Size, Bodies}
 use Rattle.program.proofs.Basic.{apart, and_true}
 use Rattle.program.proofs.ScanLaws.{Span, reached, turned}
 
@@ -62,13 +64,19 @@ module _ (t : List ℕ) where
 
   -- THE ANSWER
 
-  pub scanned_refused : {number : ℕ} → scan t ≡ number → (number ≡ 0 → ⊥) → refused_by number ≡ scanned_of t
-  unfolding scanned_of
-  scanned_refused e some = rw (e, ne_eqb _ _ some)
+  -- Numbers 1 and 2 are the table's.
+  pub scan_shut : {e : Refusal} → answered (opening t) (tt {0}) ≡ Err e → scan t ≡ refusal_number e
+  unfolding opening
+  scan_shut h = by (fits_length t) (fits_bodies t) (shut) h
+    where
+      by : (a b : Bool) → ((◌≡◌ {A = ℕ} (cond a (cond b 0 2) 1) 0 → ⊥) → scan t ≡ cond a (cond b 0 2) 1) → {e : Refusal} → answered (cond a (cond b 0 2) 1) (tt {0}) ≡ Err e → scan t ≡ refusal_number e
+      by true true is g = absurd (cc)
+      by true false is {e} g = let same : Bodies ≡ e = cc in is (λ z. omega arith) ∙ ap refusal_number same
+      by false b is {e} g = let same : Size ≡ e = cc in is (λ z. omega arith) ∙ ap refusal_number same
 
-  pub scanned_whole : {starts : List ℕ} → scan t ≡ 0 → starts ≡ (layout_of t).starts → record { number = 0; layout = record { bodies = get_or t 0 0; starts = starts } } ≡ scanned_of t
-  unfolding scanned_of layout_of
-  scanned_whole e s = rw (e, s)
+  -- The answer by the number of a refusal.
+  pub scan_refused : {e : Refusal} → scan t ≡ refusal_number e → (Err e ≡ answered (scan t) (layout_of t)) × (scan t ≡ 0 → ⊥)
+  scan_refused {e} h = (rw h (sym (answered_refusal e (layout_of t))), λ z. let s = refusal_some e in omega arith)
 
 -- BODY BY BODY
 
@@ -90,12 +98,10 @@ laying_start t h =
 
 module _ {t : List ℕ} {n body at : ℕ} {starts : List ℕ} (p : Laying t n body at starts) where
   module _ (lt : body < n) (few : n ≤ 16) where
-    pub laying_refused : {number : ℕ} → Refused number ≡ extent_of n body 0 0 (readings (drop at t)) → (scan t ≡ number) × (0 < number)
-    laying_refused {number} h =
-        let q = turned n body lt (readings (drop at t)) 0 0 number h in
-        (sym p.rest ∙ q.0, q.1)
+    pub laying_refused : {e : Refusal} → Err e ≡ extent_of n body 0 0 (readings (drop at t)) → scan t ≡ refusal_number e
+    laying_refused {e} h = sym p.rest ∙ turned n body lt (readings (drop at t)) 0 0 e h
 
-    pub laying_on : {size : ℕ} → Ended size ≡ extent_of n body 0 0 (readings (drop at t)) → Laying t n (body + 1) (at + size) (set starts body at)
+    pub laying_on : {size : ℕ} → Ok size ≡ extent_of n body 0 0 (readings (drop at t)) → Laying t n (body + 1) (at + size) (set starts body at)
     unfolding starts_from
     laying_on {size} h =
         let r = reached n body lt (readings (drop at t)) (drop at t) 0 0 size refl h in
@@ -139,16 +145,12 @@ module _ {t : List ℕ} {n body at : ℕ} {starts : List ℕ} (p : Laying t n bo
       where
         full : (rs : List Reading) → (rs ≡ [] → ⊥) → verdict n body 0 rs ≡ 8
         full [] some = absurd (some refl)
-        full (Whole c size ∷ rs) some = rw (eq-eqb _ _ same)
-        full (Unknown ∷ rs) some = rw (eq-eqb _ _ same)
-        full (Cut ∷ rs) some = rw (eq-eqb _ _ same)
-        full (Outside ∷ rs) some = rw (eq-eqb _ _ same)
+        full (Ok w ∷ rs) some = rw (eq-eqb _ _ same)
+        full (Err e ∷ rs) some = rw (eq-eqb _ _ same)
 
         read_some : (r : Reading) (rest : ℕ → List Reading) → and_on r rest ≡ [] → ⊥
-        read_some (Whole c size) rest e = apart (cc)
-        read_some Unknown rest e = apart (cc)
-        read_some Cut rest e = apart (cc)
-        read_some Outside rest e = apart (cc)
+        read_some (Ok w) rest e = apart (cc)
+        read_some (Err x) rest e = apart (cc)
 
         by : (s : List ℕ) → 0 < length s → verdict n body 0 (readings s) ≡ 8
         by [] g = absurd (let y : ⊥ = omega arith in y)

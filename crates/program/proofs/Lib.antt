@@ -22,3 +22,4 @@ pub mod PlaceLaws
 pub mod Opened
 mod Cases
 pub mod NumberLaws
+pub mod Refusals

@@ -6,12 +6,11 @@ use mathlib.Core.List.{List, [], ◌∷◌}
 use lib.ListN.{length, get_or, drop, length-append, length-replicate, length-drop}
 use lib.Seq.{drop-drop}
 use Rattle.program.specs.Command.{width}
-use Rattle.program.specs.Reading.{read, commands_of}
+use Rattle.program.specs.Reading.{whole, read, commands_of}
 use Rattle.program.specs.Bodies.{Located, Body, first_body, after_end, program_of, from}
 use Rattle.program.specs.Scan.{scan, bytes, starts_from, layout_of}
 use Rattle.program.specs.declared.command.Command.{Command}
 use Rattle.program.specs.declared.command.Command.TheVariants.{End}
-use Rattle.program.specs.declared.reading.Reading.TheVariants.{Whole}
 use Rattle.program.proofs.Basic.{get_or_padded}
 use Rattle.program.proofs.ShapeRows.{width_pos}
 use Rattle.program.proofs.ShapeReading.{known}
@@ -62,15 +61,15 @@ module _ (t : List ℕ) (ok : scan t ≡ 0) (b : ℕ) (h : b < get_or t 0 0) whe
     offset_is = (found (accepted t ok) b in_program o at).offset
 
     -- In the slice from the body's first byte: the command, and the j-th that belongs to it.
-    pub read_code : read (drop o (drop (get_or (layout_of t).starts b 0) t)) ≡ Whole x.command (width x.command)
+    pub read_code : read (drop o (drop (get_or (layout_of t).starts b 0) t)) ≡ whole x.command (width x.command)
     read_code = rw offset_is at legible_at.own
 
     pub read_code_inner : (j : ℕ) → j < length x.inner
-        → read (drop (o + width x.command + 2 * j) (drop (get_or (layout_of t).starts b 0) t)) ≡ Whole (get_or x.inner j End) 2
+        → read (drop (o + width x.command + 2 * j) (drop (get_or (layout_of t).starts b 0) t)) ≡ whole (get_or x.inner j End) 2
     read_code_inner j l = rw offset_is at (legible_at.inner j l)
 
     -- In the table.
-    pub read_table : read (drop (get_or (layout_of t).starts b 0 + o) t) ≡ Whole x.command (width x.command)
+    pub read_table : read (drop (get_or (layout_of t).starts b 0 + o) t) ≡ whole x.command (width x.command)
     read_table = rw drop-drop at read_code
 
     -- The command's bytes lie inside the table.

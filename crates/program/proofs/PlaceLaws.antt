@@ -8,12 +8,13 @@ use lib.ListN.{length, drop, set, replicate, length-append, length-replicate, re
 use lib.Seq.{drop-drop, set_at}
 use borrow.Author.Tests.{ne_eqb}
 use Rattle.program.specs.Command.{width, is_end}
+use Rattle.std.specs.Prelude.{Ok}
 use Rattle.program.specs.Reading.{read, readings, readings_after, wholes, commands_of}
 use Rattle.program.specs.Scan.{placing, left_after, body_after, scan}
 use Rattle.program.specs.Places.{marks, table_marks, places_of}
 use Rattle.program.specs.Inner.Scanned.{mark_of, Marking}
 use Rattle.program.specs.declared.command.Command.{Command}
-use Rattle.program.specs.declared.reading.Reading.TheVariants.{Whole}
+use Rattle.program.specs.declared.reading.Whole.{Whole}
 use Rattle.program.proofs.ShapeReading.{known}
 use Rattle.program.proofs.ShapeListed.{fit, none_left}
 use Rattle.program.proofs.ReadLaws.{readings_whole}
@@ -33,23 +34,25 @@ zeros_split : (a b n : ℕ) → a + b ≡ n → ◌≡◌ {A = List ℕ} (replic
 zeros_split a b n e = ap (λ (j : ℕ). replicate j 0) (sym e) ∙ sym (replicate-append-replicate a b 0)
 
 -- A command more.
-pub marking_on : {all s : List ℕ} {i first at left : ℕ} {m : List ℕ} → Marking all s i first at left m → {c : Command} {size : ℕ} → Whole c size ≡ read (drop at s)
-    → first + (at + size) ≤ 2048 → Marking all s (body_after i c) first (at + size) (left_after left c) (set m (first + at) (mark_of i left))
+pub marking_on : {all s : List ℕ} {i first at left : ℕ} {m : List ℕ} → Marking all s i first at left m → {w : Whole} → Ok w ≡ read (drop at s)
+    → first + (at + w.size) ≤ 2048 → Marking all s (body_after i w.command) first (at + w.size) (left_after left w.command) (set m (first + at) (mark_of i left))
 unfolding marks wholes
-marking_on {all} {s} {i} {first} {at} {left} {m} p {c} {size} whole fits =
+marking_on {all} {s} {i} {first} {at} {left} {m} p {w} whole fits =
+    let c = w.command in
+    let size = w.size in
     let k = known (drop at s) (sym whole) in
     let some = k.some in
     let v = mark_of i left in
     let d : drop size (drop at s) ≡ drop (at + size) s = drop-drop size at s in
-    let next = readings_whole (drop at s) c size whole ∙ ap (λ (x : List ℕ). Whole c size ∷ readings x) d in
-    let w : width c ≡ size = sym k.wide in
+    let next = readings_whole (drop at s) w whole ∙ ap (λ (x : List ℕ). Ok w ∷ readings x) d in
+    let wide : width c ≡ size = sym k.wide in
     let l = p.long in
     let one : 2048 - (first + at) ≡ suc (2047 - (first + at)) = omega arith in
     let two : size - 1 + (2048 - (first + (at + size))) ≡ 2047 - (first + at) = omega arith in
     let zeros : ◌≡◌ {A = List ℕ} (replicate (2047 - (first + at)) 0) (replicate (size - 1) 0 ++ replicate (2048 - (first + (at + size))) 0) =
     zeros_split (size - 1) (2048 - (first + (at + size))) (2047 - (first + at)) two in
     let back : marks i left (wholes (readings (drop at s))) ≡ v ∷ (replicate (size - 1) 0 ++ marks (body_after i c) (left_after left c) (wholes (readings (drop (at + size) s)))) =
-    rw (next, w) in
+    rw (next, wide) in
     record {
       front = p.front ++ (v ∷ replicate (size - 1) 0);
       long = simp (length-append, length-replicate) (omega arith);

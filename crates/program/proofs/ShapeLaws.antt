@@ -2,22 +2,21 @@
 use Prim.Native.Nat.{ℕ, zero, suc, ◌+◌, ◌*◌, ◌<◌}
 use native.Mathlib.Omega.{arith}
 use native.Mathlib.Nat.{zero-add}
-use mathlib.Core.Path.{◌≡◌, refl, sym, ap}
+use mathlib.Core.Path.{◌≡◌, refl, ap}
 use mathlib.Core.List.{List, [], ◌∷◌}
 use mathlib.Core.Bool.{Bool, true, false, cond}
 use lib.ListN.{length, get_or, take, drop}
 use lib.Seq.{drop-drop}
-use lib.Dec.{ltb, eqb}
-use borrow.Author.Tests.{ltb-false, le-ltb, eqb-true}
+use lib.Dec.{ltb}
+use borrow.Author.Tests.{ltb-false, le-ltb}
 use Rattle.program.specs.Command.{width, held, is_end}
-use Rattle.program.specs.Reading.{read, commands_of}
+use Rattle.program.specs.Reading.{whole, read, commands_of}
 use Rattle.program.specs.Bodies.{Located, Body, first_body, after_end, locate, bodies_of, program_of, head_of}
 use Rattle.program.specs.Scan.{scan, left_after, body_after, bytes}
 use Rattle.program.specs.Count.{work_of, activities_of, clocks_of, accumulators_of}
-use Rattle.program.specs.Table.{over_count, number_of, counted, refused_with, table_of}
+use Rattle.program.specs.Table.{over_count, number_of}
 use Rattle.program.specs.declared.command.Command.{Command}
 use Rattle.program.specs.declared.command.Command.TheVariants.{End}
-use Rattle.program.specs.declared.reading.Reading.TheVariants.{Whole}
 use Rattle.program.proofs.Basic.{true_false, cond_zero, neither}
 use Rattle.program.proofs.Shape.{OnCells, Sound, stride, Shaped, Accepted, Counted}
 use Rattle.program.proofs.ShapeRows.{width_pos, celled, closing}
@@ -26,8 +25,8 @@ use Rattle.program.proofs.ShapeListed.{Fit, Listed, over, next, passes, onwards,
 
 -- A command, and each of the commands that belong to it, is read where it stands in the bytes of its body.
 pub record Legible (s : List ℕ) (x : Located) : Type 0 where
-  pub own : read (drop x.offset s) ≡ Whole x.command (width x.command)
-  pub inner : (j : ℕ) → j < length x.inner → read (drop (x.offset + width x.command + 2 * j) s) ≡ Whole (get_or x.inner j End) 2
+  pub own : read (drop x.offset s) ≡ whole x.command (width x.command)
+  pub inner : (j : ℕ) → j < length x.inner → read (drop (x.offset + width x.command + 2 * j) s) ≡ whole (get_or x.inner j End) 2
 
 -- A fact of each command of a body.
 unfoldable pub Each : (Located → Type 0) → Body → Type 0
@@ -54,7 +53,7 @@ stride_is {x = x} h = let e = cells_bytes x.inner h.cells in let l = h.whole in 
 record Held (s : List ℕ) (at k : ℕ) (cs : List Command) : Type 0 where
   long : length (take k cs) ≡ k
   cells : OnCells (take k cs)
-  legible : (j : ℕ) → j < k → read (drop (at + 2 * j) s) ≡ Whole (get_or (take k cs) j End) 2
+  legible : (j : ℕ) → j < k → read (drop (at + 2 * j) s) ≡ whole (get_or (take k cs) j End) 2
 
 -- The commands cs are those of body i of n from `at` on in the bytes s, and the first `left` of them belong to an ATOM.
 record Walked (n i : ℕ) (s : List ℕ) (at left : ℕ) (cs : List Command) : Type 0 where
@@ -74,7 +73,7 @@ unfolding Shaped
 shaped_on sound goes [] e h = absurd h
 shaped_on sound goes (y ∷ r) e h = (sound, goes, e, h)
 
-module _ (n i : ℕ) (s : List ℕ) (c : Command) (at : ℕ) (own : read (drop at s) ≡ Whole c (width c)) where
+module _ (n i : ℕ) (s : List ℕ) (c : Command) (at : ℕ) (own : read (drop at s) ≡ whole c (width c)) where
   -- A body that ends with this command.
   walked_end : (left : ℕ) → Fit n i left c → is_end c ≡ true → Walked n i s at left (c ∷ [])
   unfolding locate Shaped Each OnCells
@@ -119,7 +118,7 @@ module _ (n i : ℕ) (s : List ℕ) (c : Command) (at : ℕ) (own : read (drop a
         legible = w.legible;
       }
     where
-      reading : width c ≡ 2 → Held s (at + width c) left cs → (j : ℕ) → j < suc left → read (drop (at + 2 * j) s) ≡ Whole (get_or (take (suc left) (c ∷ cs)) j End) 2
+      reading : width c ≡ 2 → Held s (at + width c) left cs → (j : ℕ) → j < suc left → read (drop (at + 2 * j) s) ≡ whole (get_or (take (suc left) (c ∷ cs)) j End) 2
       reading two h zero l = let k : at + 2 * 0 ≡ at = omega arith in rw k (rw two at own)
       reading two h (suc j) l = let k : at + 2 * suc j ≡ at + width c + 2 * j = omega arith in rw k (h.legible j (omega arith))
 
@@ -205,16 +204,3 @@ pub unnumbered : (limit : ℕ) (t : List ℕ) → scan t ≡ 0 → Counted limit
 unfolding number_of over_count
 unnumbered limit t ok h =
     rw (ok, le-ltb _ _ h.activities, le-ltb _ _ h.clocks, le-ltb _ _ h.accumulators, le-ltb _ _ h.work)
-
--- What the reader answers of a table: its number, and where that is 0 its layout and counts.
-pub table_number : (limit : ℕ) (t : List ℕ) → (table_of limit t).number ≡ number_of limit t
-unfolding table_of counted
-table_number limit t = by (eqb (number_of limit t) 0) refl
-  where
-    by : (q : Bool) → eqb (number_of limit t) 0 ≡ q → (cond q (counted t) (refused_with (number_of limit t))).number ≡ number_of limit t
-    by true q = sym (eqb-true _ _ q)
-    by false q = refl
-
-pub table_counted : (limit : ℕ) (t : List ℕ) → number_of limit t ≡ 0 → table_of limit t ≡ counted t
-unfolding table_of
-table_counted limit t e = rw e

@@ -1,7 +1,7 @@
 -- A table that the scan lets pass, command by command: each is read where the one before it ends and fits its body. All else follows from this.
 use Prim.Native.Nat.{ℕ, zero, suc, ◌+◌, ◌-◌, ◌≤◌, ◌<◌}
 use native.Mathlib.Omega.{arith}
-use mathlib.Core.Path.{◌≡◌, refl, subst}
+use mathlib.Core.Path.{◌≡◌, refl, ap, subst, ◌∙◌}
 use mathlib.Core.List.{List, [], ◌∷◌}
 use mathlib.Core.Bool.{Bool, true, false, cond}
 use lib.ListN.{length, get_or, drop, length-drop}
@@ -9,15 +9,16 @@ use lib.Seq.{drop-drop}
 use lib.Dec.{ltb, leb, eqb}
 use borrow.Author.Tests.{ltb-true, leb-true, eqb-true, eqb-false, ne_eqb}
 use Rattle.program.specs.Command.{width, names, named, is_end, uses_cell}
-use Rattle.program.specs.Reading.{read, readings_after, readings, wholes, commands_of, and_on}
+use Rattle.std.specs.Prelude.{Ok, Err}
+use Rattle.program.specs.Reading.{Reading, whole, read, readings_after, readings, wholes, commands_of, and_on}
 use Rattle.program.specs.Bodies.{first_body, after_end}
 use Rattle.program.specs.Scan.{name_fits, atom_fits, placing, left_after, body_after, verdict, fits_length, fits_bodies, scan, bytes}
 use Rattle.program.specs.declared.command.Command.{Command}
-use Rattle.program.specs.declared.reading.Reading.{Reading}
-use Rattle.program.specs.declared.reading.Reading.TheVariants.{Whole, Unknown, Cut, Outside}
 use Rattle.program.proofs.Basic.{true_false, and_true, implied, passed, cond_zero, neither, drop_pos}
 use Rattle.program.proofs.ShapeRows.{width_pos, celled, closing}
 use Rattle.program.proofs.ShapeReading.{known}
+use Rattle.program.specs.Refusal.{refusal_number}
+use Rattle.program.proofs.Refusals.{refusal_some}
 
 -- A command of body i of n, where `left` commands still belong to an ATOM.
 pub record Fit (n i left : ℕ) (c : Command) : Type 0 where
@@ -27,7 +28,7 @@ pub record Fit (n i left : ℕ) (c : Command) : Type 0 where
 -- The commands cs stand in the bytes s, the first of them in body i of n, where `left` commands still belong to an ATOM.
 pub data Listed (n : ℕ) : ℕ → ℕ → List ℕ → List Command → Type 0 where
   over : {i left : ℕ} → i ≡ n → Listed n i left [] []
-  next : {i left : ℕ} {s : List ℕ} {c : Command} {cs : List Command} → (i ≡ n → ⊥) → read s ≡ Whole c (width c) → Fit n i left c
+  next : {i left : ℕ} {s : List ℕ} {c : Command} {cs : List Command} → (i ≡ n → ⊥) → read s ≡ whole c (width c) → Fit n i left c
       → Listed n (body_after i c) (left_after left c) (drop (width c) s) cs → Listed n i left s (c ∷ cs)
 
 -- A command with neither number 6 nor number 7.
@@ -53,16 +54,15 @@ module _ (n : ℕ) where
       by : (r : Reading) → read (x ∷ s) ≡ r
           → ((skip i left : ℕ) → verdict n i left (readings_after s skip) ≡ 0 → Listed n i left (drop skip s) (wholes (readings_after s skip)))
           → verdict n i left (and_on r (readings_after s)) ≡ 0 → Listed n i left (x ∷ s) (wholes (and_on r (readings_after s)))
-      by Unknown h ih e = absurd (let z = (cond_zero (eqb i n) 7 3 e).1 in omega arith)
-      by Cut h ih e = absurd (let z = (cond_zero (eqb i n) 7 4 e).1 in omega arith)
-      by Outside h ih e = absurd (let z = (cond_zero (eqb i n) 7 5 e).1 in omega arith)
-      by (Whole c size) h ih e =
-          let w = (known (x ∷ s) h).wide in
+      by (Err x) h ih e = absurd (let z = (cond_zero (eqb i n) 7 (refusal_number x) e).1 in let y = refusal_some x in let v : ⊥ = omega arith in v)
+      by (Ok w) h ih e =
+          let c = w.command in
+          let k = (known (x ∷ s) h).wide in
           let f = cond_zero (eqb i n) 7 _ e in
           let g = neither (placing n i left c) _ f.1 in
-          let d : drop (size - 1) s ≡ drop (width c) (x ∷ s) = rw w (drop_pos x s (width_pos c)) in
-          next (eqb-false i n f.0) (rw w at h) (fit n i left c g.0)
-          (subst (λ (u : List ℕ). Listed n (body_after i c) (left_after left c) u (wholes (readings_after s (size - 1)))) d (ih (size - 1) (body_after i c) (left_after left c) g.1))
+          let d : drop (w.size - 1) s ≡ drop (width c) (x ∷ s) = rw k (drop_pos x s (width_pos c)) in
+          next (eqb-false i n f.0) (h ∙ ap (whole c) k) (fit n i left c g.0)
+          (subst (λ (u : List ℕ). Listed n (body_after i c) (left_after left c) u (wholes (readings_after s (w.size - 1)))) d (ih (w.size - 1) (body_after i c) (left_after left c) g.1))
 
 -- The limits of a table that passes, and its commands.
 pub record Passed (t : List ℕ) : Type 0 where

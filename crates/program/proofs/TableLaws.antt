@@ -1,22 +1,26 @@
 -- Numbers 9 to 12 by saturated counts, and the answers that they lead to.
 use Prim.Native.Nat.{ℕ, ◌+◌, ◌≤◌, ◌<◌}
-use mathlib.Core.Path.{◌≡◌, refl, sym, ◌∙◌}
+use mathlib.Core.Path.{◌≡◌, refl, sym, ap, ◌∙◌}
 use mathlib.Core.List.{List, ◌∷◌}
 use mathlib.Core.Bool.{Bool, true, false, cond, ◌&&◌}
 use native.Mathlib.Omega.{arith}
 use native.Mathlib.Numerals.{add-one}
 use native.Mathlib.Decide.{dec_le}
-use lib.ListN.{length, get_or}
+use lib.ListN.{length}
 use lib.Dec.{eqb, ltb, leb, leb-suc-suc}
-use borrow.Author.Tests.{le-leb, lt-leb, ne_eqb, lt-ltb, le-ltb, ltb-false, eqb-true}
+use borrow.Author.Tests.{le-leb, lt-leb, ne_eqb, lt-ltb, le-ltb, ltb-false}
 use Rattle.program.specs.Bodies.{program_of}
 use Rattle.program.specs.Scan.{fits_length, fits_bodies, scan, layout_of}
-use Rattle.program.specs.Inner.Scanned.{refused_by, scanned_of}
-use Rattle.program.specs.Count.{tally, own_activities, work_of, activities_of, clocks_of, accumulators_of}
-use Rattle.program.specs.Inner.Coding.{weight}
-use Rattle.program.specs.Inner.Counting.{cap, Counts, over_counts}
-use Rattle.program.specs.Table.{work_limit, over_count, number_of, counted, refused_with, table_of}
-use Rattle.program.specs.declared.scan.Scanned.{Scanned}
+use Rattle.program.specs.Count.{tally, own_work, own_activities, work_of, activities_of, clocks_of, accumulators_of}
+use Rattle.program.specs.Inner.Counting.{workCount, activityCount, clockCount, accumulatorCount, weight, cap, CountsOf, over_counts}
+use Rattle.program.specs.Table.{work_limit, over_count, number_of, counted, table_of}
+use Rattle.program.specs.Refusal.{refusal_number, told, answered}
+use Rattle.program.specs.declared.refusal.Refusal.{Refusal}
+use Rattle.std.specs.Prelude.{Result, Ok, Err}
+use Rattle.program.proofs.Refusals.{told_answered, answered_ok, answered_err, answered_at, answered_some}
+use Rattle.program.proofs.NumberLaws.{number_small}
+use Rattle.program.specs.declared.table.Table.{Table}
+use Rattle.program.specs.declared.count.Counts.{Counts}
 
 -- A limit below the cap is passed by the saturated count where it is by the count itself.
 cap_over : (limit x : ℕ) → limit < 65536 → ltb limit (cap x) ≡ ltb limit x
@@ -26,47 +30,35 @@ cap_over limit x h = by (dec_le x limit)
     by (yes e) = le-ltb limit (cap x) (omega arith) ∙ sym (le-ltb limit x e)
     by (no e) = lt-ltb limit (cap x) (omega arith) ∙ sym (lt-ltb limit x (omega arith))
 
--- The four counts of body 0.
-record Totals (t r : List ℕ) : Type 0 where
-  work_is : get_or r 0 0 ≡ cap (work_of (program_of t))
-  activities_is : get_or r 1 0 ≡ cap (tally own_activities (program_of t) 0)
-  clocks_is : get_or r 2 0 ≡ cap (clocks_of (program_of t))
-  accumulators_is : get_or r 3 0 ≡ cap (accumulators_of (program_of t))
-
-totals : (t r : List ℕ) → Counts t 0 r → Totals t r
-unfolding Counts weight work_of clocks_of accumulators_of
-totals t r h = record { work_is = h 0 (omega arith); activities_is = h 1 (omega arith); clocks_is = h 2 (omega arith); accumulators_is = h 3 (omega arith) }
-
-module _ (t r : List ℕ) (h : Counts t 0 r) where
+module _ (t : List ℕ) (r : Counts) (h : CountsOf t 0 r) where
   pub over_same : over_counts r ≡ over_count work_limit (program_of t)
-  unfolding over_counts over_count activities_of
+  unfolding CountsOf over_counts over_count work_of activities_of clocks_of accumulators_of
   over_same =
-      let o = totals t r h in
       let a : ltb 64 (tally own_activities (program_of t) 0 + 1) ≡ ltb 63 (tally own_activities (program_of t) 0) = rw add-one (leb-suc-suc 64 (tally own_activities (program_of t) 0)) in
       rw (
-        o.work_is,
-        o.activities_is,
-        o.clocks_is,
-        o.accumulators_is,
+        h workCount,
+        h activityCount,
+        h clockCount,
+        h accumulatorCount,
         a,
         cap_over 63 (tally own_activities (program_of t) 0) (omega arith),
-        cap_over 16 (clocks_of (program_of t)) (omega arith),
-        cap_over 16 (accumulators_of (program_of t)) (omega arith),
-        cap_over work_limit (work_of (program_of t)) (omega arith),
+        cap_over 16 (tally (weight clockCount) (program_of t) 0) (omega arith),
+        cap_over 16 (tally (weight accumulatorCount) (program_of t) 0) (omega arith),
+        cap_over work_limit (tally own_work (program_of t) 0) (omega arith),
       )
 
 -- None of the limits is passed.
-record Within (r : List ℕ) : Type 0 where
-  activities_few : get_or r 1 0 ≤ 63
-  clocks_few : get_or r 2 0 ≤ 16
-  accumulators_few : get_or r 3 0 ≤ 16
-  work_few : get_or r 0 0 ≤ work_limit
+record Within (r : Counts) : Type 0 where
+  activities_few : r.activities ≤ 63
+  clocks_few : r.clocks ≤ 16
+  accumulators_few : r.accumulators ≤ 16
+  work_few : r.work ≤ work_limit
 
-within : (r : List ℕ) → over_counts r ≡ 0 → Within r
+within : (r : Counts) → over_counts r ≡ 0 → Within r
 unfolding over_counts
-within r h = by (ltb 63 (get_or r 1 0)) (ltb 16 (get_or r 2 0)) (ltb 16 (get_or r 3 0)) (ltb work_limit (get_or r 0 0)) refl refl refl refl h
+within r h = by (ltb 63 r.activities) (ltb 16 r.clocks) (ltb 16 r.accumulators) (ltb work_limit r.work) refl refl refl refl h
   where
-    by : (a c u w : Bool) → ltb 63 (get_or r 1 0) ≡ a → ltb 16 (get_or r 2 0) ≡ c → ltb 16 (get_or r 3 0) ≡ u → ltb work_limit (get_or r 0 0) ≡ w
+    by : (a c u w : Bool) → ltb 63 r.activities ≡ a → ltb 16 r.clocks ≡ c → ltb 16 r.accumulators ≡ u → ltb work_limit r.work ≡ w
         → ◌≡◌ {A = ℕ} (cond a 9 (cond c 10 (cond u 11 (cond w 12 0)))) 0 → Within r
     by true c u w p q s z g = absurd (let y : ⊥ = omega arith in y)
     by false true u w p q s z g = absurd (let y : ⊥ = omega arith in y)
@@ -92,40 +84,46 @@ many_bodies limit n s h = rw none (by (fits_length (0 ∷ s)) (over_count limit 
     by false m = refl
 
 module _ (t : List ℕ) where
-  -- WHAT THE SCAN ANSWERED
-
-  pub scanned_number : (scanned_of t).number ≡ scan t
-  unfolding scanned_of
-  scanned_number = by (eqb (scan t) 0) refl
-    where
-      by : (x : Bool) → eqb (scan t) 0 ≡ x → (cond {A = Scanned} x (record { number = 0; layout = layout_of t }) (refused_by (scan t))).number ≡ scan t
-      by true e = sym (eqb-true _ _ e)
-      by false e = refl
-
   -- WHAT THE TABLE IS ANSWERED
 
-  pub table_unread : {number : ℕ} → scan t ≡ number → (number ≡ 0 → ⊥) → refused_with number ≡ table_of work_limit t
+  pub table_unread : {e : Refusal} → answered (scan t) (layout_of t) ≡ Err e → Err e ≡ table_of work_limit t
   unfolding table_of number_of
-  table_unread e some = rw (e, ne_eqb _ _ some, ne_eqb _ _ some)
+  table_unread h =
+      let k = answered_at (scan t) (layout_of t) h in
+      rw (ne_eqb _ _ k.0) (sym (answered_some (scan t) (counted t) k.0 ∙ ap Err k.1))
 
-  module _ (read : scan t ≡ 0) where
-    pub scanned_layout : (scanned_of t).layout ≡ layout_of t
-    unfolding scanned_of
-    scanned_layout = rw read
+  module _ (read : scan t ≡ 0) (r : Counts) (h : CountsOf t 0 r) where
+    pub table_over : {e : Refusal} → answered (over_counts r) (tt {0}) ≡ Err e → Err e ≡ table_of work_limit t
+    unfolding table_of number_of
+    table_over g =
+        let k = answered_at (over_counts r) (tt {0}) g in
+        rw (read, ← over_same t r h) (sym (answered_some (over_counts r) (counted t) k.0 ∙ ap Err k.1))
 
-    module _ (r : List ℕ) (h : Counts t 0 r) where
-      pub table_over : {number : ℕ} → over_counts r ≡ number → (number ≡ 0 → ⊥) → refused_with number ≡ table_of work_limit t
-      unfolding table_of number_of
-      table_over e some = rw (read, ← over_same t r h, e, ne_eqb _ _ some)
+    pub table_counted : over_counts r ≡ 0
+        → Ok (record { layout = layout_of t; work = r.work; activities = r.activities + 1; clocks = r.clocks; accumulators = r.accumulators }) ≡ table_of work_limit t
+    unfolding CountsOf table_of number_of counted work_of activities_of clocks_of accumulators_of
+    table_counted e =
+        let w = within r e in
+        let a : tally own_activities (program_of t) 0 ≡ r.activities = let x = h activityCount in let y = w.activities_few in omega arith in
+        let c : tally (weight clockCount) (program_of t) 0 ≡ r.clocks = let x = h clockCount in let y = w.clocks_few in omega arith in
+        let u : tally (weight accumulatorCount) (program_of t) 0 ≡ r.accumulators = let x = h accumulatorCount in let y = w.accumulators_few in omega arith in
+        let k : tally own_work (program_of t) 0 ≡ r.work = let x = h workCount in let y = w.work_few in omega arith in
+        rw (read, ← over_same t r h, e, a, c, u, k)
 
-      pub table_counted : over_counts r ≡ 0
-          → record { number = 0; layout = layout_of t; work = get_or r 0 0; activities = get_or r 1 0 + 1; clocks = get_or r 2 0; accumulators = get_or r 3 0 } ≡ table_of work_limit t
-      unfolding table_of number_of counted activities_of
-      table_counted e =
-          let o = totals t r h in
-          let w = within r e in
-          let a : tally own_activities (program_of t) 0 ≡ get_or r 1 0 = let x = o.activities_is in let y = w.activities_few in omega arith in
-          let c : clocks_of (program_of t) ≡ get_or r 2 0 = let x = o.clocks_is in let y = w.clocks_few in omega arith in
-          let u : accumulators_of (program_of t) ≡ get_or r 3 0 = let x = o.accumulators_is in let y = w.accumulators_few in omega arith in
-          let k : work_of (program_of t) ≡ get_or r 0 0 = let x = o.work_is in let y = w.work_few in omega arith in
-          rw (read, ← over_same t r h, e, a, c, u, k)
+-- WHAT AN ANSWER SAYS
+
+-- The number that is told of a table.
+pub table_told : (limit : ℕ) (t : List ℕ) → told (table_of limit t) ≡ number_of limit t
+unfolding table_of
+table_told limit t = told_answered (number_of limit t) (counted t) (let n = number_small limit t in omega arith)
+
+module _ (limit : ℕ) (t : List ℕ) {r : Result Table Refusal} (is : r ≡ table_of limit t) where
+  -- Of an accepted table, what it holds;
+  pub table_read : {x : Table} → r ≡ Ok x → (number_of limit t ≡ 0) × (x ≡ counted t)
+  unfolding table_of
+  table_read h = answered_ok (number_of limit t) (counted t) (sym is ∙ h)
+
+  -- of one that is turned down, its number.
+  pub table_refused : {e : Refusal} → r ≡ Err e → (refusal_number e ≡ number_of limit t) × (0 < number_of limit t)
+  unfolding table_of
+  table_refused h = answered_err (number_of limit t) (counted t) (sym is ∙ h) (let n = number_small limit t in omega arith)

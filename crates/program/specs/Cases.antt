@@ -1,10 +1,12 @@
 -- Cases of our own: tables, and what the reader tells of each: the number for which it is turned down, or where its bodies begin and its counts.
-use Rattle.std.specs.Prelude.{ℕ, zero, suc, ◌+◌, ◌-◌, List, [], ◌∷◌, ◌++◌, map, Bool, true, ◌&&◌, length, drop, replicate}
+use Rattle.std.specs.Prelude.{ℕ, zero, suc, ◌+◌, ◌-◌, List, [], ◌∷◌, ◌++◌, map, Bool, true, ◌&&◌, length, drop, replicate, Result, Ok, Err}
 use Rattle.program.specs.declared.command.Command.{Command}
 use Rattle.program.specs.Command.{opcode, operands_of, padded, width, width_at}
 use Rattle.program.specs.Reading.{commands_of}
+use Rattle.program.specs.Refusal.{refusal_number}
 use Rattle.program.specs.Table.{work_limit, table_of}
 use Rattle.program.specs.Same.{same_list}
+use Rattle.program.specs.declared.refusal.Refusal.{Refusal}
 use Rattle.program.specs.declared.table.Table.{Table}
 
 -- A table's bytes and every number that is told of it: its own number, the bodies, the work, the activities, the clocks, the accumulators, and the first byte of
@@ -13,8 +15,9 @@ pub record Told : Type 0 where
   pub bytes : List ℕ
   pub numbers : List ℕ
 
-unfoldable pub numbers_of : Table → List ℕ
-numbers_of t = t.number ∷ t.layout.bodies ∷ t.work ∷ t.activities ∷ t.clocks ∷ t.accumulators ∷ t.layout.starts
+unfoldable pub numbers_of : Result Table Refusal → List ℕ
+numbers_of (Ok t) = 0 ∷ t.layout.bodies ∷ t.work ∷ t.activities ∷ t.clocks ∷ t.accumulators ∷ t.layout.starts
+numbers_of (Err e) = refusal_number e ∷ replicate 21 0
 
 unfoldable pub tells : Told → Bool
 tells c = same_list (numbers_of (table_of work_limit c.bytes)) c.numbers

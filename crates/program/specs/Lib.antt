@@ -1,5 +1,6 @@
 -- What a reader must believe
 pub mod Command
+pub mod Refusal
 pub mod Reading
 pub mod Bodies
 pub mod Scan

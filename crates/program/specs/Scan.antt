@@ -1,11 +1,11 @@
 -- The scan of a whole table: numbers 1 to 8 of "Turned down", in checking order, and where each body begins.
-use Rattle.std.specs.Prelude.{ℕ, zero, suc, ◌+◌, ◌-◌, List, [], ◌∷◌, ◌++◌, Bool, cond, ◌||◌, ◌&&◌, not, length, get_or, drop, replicate, ltb, leb, eqb}
+use Rattle.std.specs.Prelude.{ℕ, zero, suc, ◌+◌, ◌-◌, List, [], ◌∷◌, ◌++◌, Bool, cond, ◌||◌, ◌&&◌, not, length, get_or, drop, replicate, ltb, leb, eqb, Ok, Err}
 use Rattle.program.specs.Command.{width, names, named, held, is_end, uses_cell}
-use Rattle.program.specs.Reading.{refusal_of, readings, commands_of}
+use Rattle.program.specs.Reading.{Reading, readings, commands_of}
+use Rattle.program.specs.Refusal.{refusal_number}
 use Rattle.program.specs.Bodies.{first_body, after_end}
 use Rattle.program.specs.declared.command.Command.{Command}
-use Rattle.program.specs.declared.reading.Reading.{Reading}
-use Rattle.program.specs.declared.reading.Reading.TheVariants.{Whole, Unknown, Cut, Outside}
+use Rattle.program.specs.declared.refusal.Refusal.TheVariants.{Cut}
 use Rattle.program.specs.declared.scan.Layout.{Layout}
 
 -- "6. A b is outside its range." "In body i, b must be greater than i and less than the number of bodies"
@@ -32,13 +32,11 @@ body_after i c = cond (is_end c) (i + 1) i
 -- "Numbers 3 to 7 are tried for each command in turn; the first failing command decides." Bytes that run out before the last END are a cut;
 -- "8. Bytes follow the last body."
 unfoldable pub verdict : ℕ → ℕ → ℕ → List Reading → ℕ
-verdict n i left [] = cond (eqb i n) 0 (refusal_of Cut)
-verdict n i left (Unknown ∷ rs) = cond (eqb i n) 8 (refusal_of Unknown)
-verdict n i left (Cut ∷ rs) = cond (eqb i n) 8 (refusal_of Cut)
-verdict n i left (Outside ∷ rs) = cond (eqb i n) 8 (refusal_of Outside)
-verdict n i left (Whole c size ∷ rs) =
-    let here = placing n i left c in
-    let later = verdict n (body_after i c) (left_after left c) rs in
+verdict n i left [] = cond (eqb i n) 0 (refusal_number Cut)
+verdict n i left (Err e ∷ rs) = cond (eqb i n) 8 (refusal_number e)
+verdict n i left (Ok w ∷ rs) =
+    let here = placing n i left w.command in
+    let later = verdict n (body_after i w.command) (left_after left w.command) rs in
     cond (eqb i n) 8 (cond (eqb here 0) later here)
 
 -- "1. The table has fewer than 2 or more than 2,048 bytes."
@@ -70,7 +68,3 @@ unfoldable pub layout_of : List ℕ → Layout
 layout_of t =
     let n = get_or t 0 0 in
     record { bodies = n; starts = starts_from n 1 (commands_of t) ++ replicate (16 - n) 0 }
-
--- The layout that a refused table is given.
-abbrev pub no_layout : Layout
-no_layout = record { bodies = 0; starts = replicate 16 0 }

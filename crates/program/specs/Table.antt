@@ -1,8 +1,10 @@
 -- A table that is read and counted: numbers 1 to 12 of "Turned down".
-use Rattle.std.specs.Prelude.{ℕ, List, cond, ltb, eqb}
+use Rattle.std.specs.Prelude.{ℕ, List, cond, ltb, eqb, Result}
 use Rattle.program.specs.Bodies.{Program, program_of}
-use Rattle.program.specs.Scan.{scan, layout_of, no_layout}
+use Rattle.program.specs.Scan.{scan, layout_of}
 use Rattle.program.specs.Count.{work_of, activities_of, clocks_of, accumulators_of}
+use Rattle.program.specs.Refusal.{answered}
+use Rattle.program.specs.declared.refusal.Refusal.{Refusal}
 use Rattle.program.specs.declared.table.Table.{Table}
 
 -- "12. Work is above 65,535."
@@ -21,11 +23,10 @@ number_of limit t =
     let m = over_count limit (program_of t) in
     cond (eqb n 0) m n
 
--- What the reader answers of a table: its layout and counts, or its number and zeros.
+-- What the reader answers of a table: its layout and counts, or its number.
 unfoldable pub counted : List ℕ → Table
 counted t =
     record {
-      number = 0;
       layout = layout_of t;
       work = work_of (program_of t);
       activities = activities_of (program_of t);
@@ -33,12 +34,5 @@ counted t =
       accumulators = accumulators_of (program_of t);
     }
 
-abbrev pub refused_with : ℕ → Table
-refused_with number = record { number = number; layout = no_layout; work = 0; activities = 0; clocks = 0; accumulators = 0 }
-
-unfoldable pub table_of : ℕ → List ℕ → Table
-table_of limit t =
-    let n = number_of limit t in
-    let whole = counted t in
-    let none = refused_with n in
-    cond (eqb n 0) whole none
+unfoldable pub table_of : ℕ → List ℕ → Result Table Refusal
+table_of limit t = answered (number_of limit t) (counted t)

@@ -1,10 +1,10 @@
 // The commands of a table.
-ghost use Rattle.std.specs.Prelude.{◌≡◌, [], ◌∷◌, ◌<◌, ◌%◌, ◌/◌};
+ghost use Rattle.std.specs.Prelude.{◌≡◌, ◌<◌};
 ghost use Rattle.program.specs.Command.{width_at, opcode, operands_of, padded, names, named, times, held, is_end, uses_cell};
 ghost use Rattle.program.specs.Inner.Coding.{commands};
 
 // A command with its operands as they stand in the table.
-#[derive(Clone, Copy)]
+#[derive(Clone, Copy, Debug, PartialEq, Eq)]
 pub enum Command {
     End,
     Next,
@@ -26,14 +26,14 @@ pub enum Command {
     Choose(u8),
 }
 
-// A byte as a number of the machine's width.
+// A byte as a number of the machine's width, and the range that it has there.
 pub fn wide(x: u8) -> usize
     ensures { (result ≡ x) × (result < 256) }
 {
-    x as usize
+    usize::from(x)
 }
 
-// A command's byte.
+// A command's byte. A case with operands has no number of its own, so `as` cannot give it.
 pub fn opcode(command: Command) -> usize
     ensures { (result ≡ opcode command) × (result < commands) }
 {
@@ -59,111 +59,74 @@ pub fn opcode(command: Command) -> usize
     }
 }
 
-// The four bytes of a value, the lowest first.
-fn bytes_of(v: u32) -> [u8; 4]
-    ensures { result ≡ padded (v % 256 ∷ v / 256 % 256 ∷ v / 65536 % 256 ∷ v / 16777216 % 256 ∷ []) }
-{
-    [
-        (v % 256) as u8,
-        (v / 256 % 256) as u8,
-        (v / 65536 % 256) as u8,
-        (v / 16777216 % 256) as u8,
-    ]
-}
-
 // A command's operand bytes, and 0 for those that it lacks.
 pub fn operands(command: Command) -> [u8; 4]
     ensures { result ≡ padded (operands_of command) }
 {
     match command {
-        Command::End => [0, 0, 0, 0],
-        Command::Next => [0, 0, 0, 0],
-        Command::Clock(c) => [c, 0, 0, 0],
-        Command::Resume(c) => [c, 0, 0, 0],
-        Command::Drop(c) => [c, 0, 0, 0],
+        Command::End | Command::Next => [0, 0, 0, 0],
+        Command::Clock(c) | Command::Resume(c) | Command::Drop(c) => [c, 0, 0, 0],
         Command::Async(b, m) => [b, m, 0, 0],
-        Command::Finish(b) => [b, 0, 0, 0],
         Command::Repeat(n, b) => [n, b, 0, 0],
         Command::Acc(a, o) => [a, o, 0, 0],
-        Command::Offer(a) => [a, 0, 0, 0],
-        Command::Read(a) => [a, 0, 0, 0],
-        Command::Reset(a) => [a, 0, 0, 0],
-        Command::Put(v) => bytes_of(v),
-        Command::Fetch(d) => [d, 0, 0, 0],
-        Command::Store(d) => [d, 0, 0, 0],
-        Command::Add(d) => [d, 0, 0, 0],
+        Command::Offer(a) | Command::Read(a) | Command::Reset(a) => [a, 0, 0, 0],
+        Command::Put(v) => v.to_le_bytes(),
+        Command::Fetch(d) | Command::Store(d) | Command::Add(d) => [d, 0, 0, 0],
         Command::Atom(k) => [k, 0, 0, 0],
-        Command::Choose(b) => [b, 0, 0, 0],
+        Command::Finish(b) | Command::Choose(b) => [b, 0, 0, 0],
     }
 }
 
 // The bytes of a command byte and its operands, 1 where no command has this byte.
+#[tactic(auto, unfolding(crate::specs::Command::width_at, crate::specs::Command::row_at, crate::specs::Command::rows))]
 pub fn width_at(op: u8) -> usize
     ensures { result ≡ width_at op }
 {
     match op {
-        0 => 1,
-        1 => 1,
-        2 => 2,
-        3 => 2,
-        4 => 2,
-        5 => 3,
-        6 => 2,
-        7 => 3,
-        8 => 3,
-        9 => 2,
-        10 => 2,
-        11 => 2,
+        2..=4 | 6 | 9..=11 | 13..=17 => 2,
+        5 | 7 | 8 => 3,
         12 => 5,
-        13 => 2,
-        14 => 2,
-        15 => 2,
-        16 => 2,
-        17 => 2,
         _ => 1,
     }
 }
 
 // Whether a command names a body.
+#[tactic(auto, unfolding(crate::specs::Command::names, crate::specs::Command::row_of, crate::specs::Command::row_at, crate::specs::Command::rows))]
 pub(crate) fn names(command: Command) -> bool
     ensures { result ≡ names command }
 {
-    match command {
-        Command::Async(_, _) => true,
-        Command::Finish(_) => true,
-        Command::Repeat(_, _) => true,
-        Command::Choose(_) => true,
-        _ => false,
-    }
+    matches!(
+        command,
+        Command::Async(_, _) | Command::Finish(_) | Command::Repeat(_, _) | Command::Choose(_)
+    )
 }
 
-// The body that a command names, or 0.
+// The body that a command names, or 0: the definitions have whether it names one and which apart.
+#[tactic(auto, unfolding(crate::specs::Command::named, crate::specs::Command::row_of, crate::specs::Command::row_at, crate::specs::Command::rows))]
 pub fn named(command: Command) -> usize
     ensures { (result ≡ named command) × (result < 256) }
 {
     match command {
-        Command::Async(b, _) => wide(b),
-        Command::Finish(b) => wide(b),
-        Command::Repeat(_, b) => wide(b),
-        Command::Choose(b) => wide(b),
+        Command::Async(b, _) | Command::Repeat(_, b) => wide(b),
+        Command::Finish(b) | Command::Choose(b) => wide(b),
         _ => 0,
     }
 }
 
 // How often a command runs the body that it names.
+#[tactic(auto, unfolding(crate::specs::Command::times, crate::specs::Command::names, crate::specs::Command::row_of, crate::specs::Command::row_at, crate::specs::Command::rows))]
 pub fn times(command: Command) -> usize
     ensures { (result ≡ times command) × (result < 256) }
 {
     match command {
-        Command::Async(_, _) => 1,
-        Command::Finish(_) => 1,
+        Command::Async(_, _) | Command::Finish(_) | Command::Choose(_) => 1,
         Command::Repeat(n, _) => wide(n),
-        Command::Choose(_) => 1,
         _ => 0,
     }
 }
 
 // How many of the commands that follow belong to a command: the k of ATOM.
+#[tactic(auto, unfolding(crate::specs::Command::held, crate::specs::Command::row_of, crate::specs::Command::row_at, crate::specs::Command::rows))]
 pub(crate) fn held(command: Command) -> usize
     ensures { (result ≡ held command) × (result < 256) }
 {
@@ -174,16 +137,20 @@ pub(crate) fn held(command: Command) -> usize
 }
 
 // Whether a command is END.
+#[tactic(auto, unfolding(crate::specs::Command::is_end))]
 pub(crate) fn is_end(command: Command) -> bool
     ensures { result ≡ is_end command }
 {
-    opcode(command) == 0
+    matches!(command, Command::End)
 }
 
 // Whether a command is one of 0D to 0F.
+#[tactic(auto, unfolding(crate::specs::Command::uses_cell))]
 pub(crate) fn uses_cell(command: Command) -> bool
     ensures { result ≡ uses_cell command }
 {
-    let op = opcode(command);
-    13 <= op && op <= 15
+    matches!(
+        command,
+        Command::Fetch(_) | Command::Store(_) | Command::Add(_)
+    )
 }

@@ -1,102 +1,132 @@
 // The four counts of a table: work, activities, clocks and accumulators.
-ghost use Rattle.std.specs.Prelude.{◌≡◌, ◌+◌, ◌*◌, ◌<◌};
+ghost use Rattle.std.specs.Prelude.{◌≡◌, ◌+◌, ◌*◌, ◌≤◌, ◌<◌};
 ghost use Rattle.program.specs.Command.{width_at, held};
 ghost use Rattle.program.specs.Scan.{scan, layout_of};
-ghost use Rattle.program.specs.Inner.Coding.{weight};
-ghost use Rattle.program.specs.Inner.Counting.{cap, Small, Added, Counts, Counting, Filled};
+ghost use Rattle.program.specs.Inner.Counting.{cap, own_counts, added, Small, CountsOf, Counting, Filled};
 
-use super::command::{Command, held, is_end, named, opcode, times, width_at};
+use super::command::{Command, held, is_end, named, times, width_at};
 use super::reading::{byte_at, known};
 
-// The bytes of the commands that count something else than 1 work.
-const NEXT: usize = 1;
+// What a command, a body or a table comes to.
+#[derive(Clone, Copy, Debug, PartialEq, Eq)]
+pub struct Counts {
+    pub work: u64,
+    pub activities: u64,
+    pub clocks: u64,
+    pub accumulators: u64,
+}
 
-const CLOCK: usize = 2;
+const NOTHING: Counts = Counts {
+    work: 0,
+    activities: 0,
+    clocks: 0,
+    accumulators: 0,
+};
 
-const ASYNC: usize = 5;
+// What most commands count by themselves.
+const WORK: Counts = Counts {
+    work: 1,
+    activities: 0,
+    clocks: 0,
+    accumulators: 0,
+};
 
-const ACC: usize = 8;
-
-// Entry k of what a command counts by itself: work 0, activities 1, clocks 2, accumulators 3.
-fn own(command: Command, k: usize) -> usize
-    requires { k < 4 }
-    ensures { (result ≡ weight k command) × (result < 256) }
+// What a command counts by itself.
+#[tactic(auto, unfolding(crate::specs::Inner::Counting::own_counts, crate::specs::Command::row_of, crate::specs::Command::row_at, crate::specs::Command::rows))]
+fn own(command: Command) -> Counts
+    ensures { result ≡ own_counts command }
 {
-    let op = opcode(command);
-    match k {
-        0 => if op == NEXT { 2 } else { 1 },
-        1 => if op == ASYNC { 1 } else { 0 },
-        2 => if op == CLOCK { 1 } else { 0 },
-        _ => if op == ACC { 1 } else { 0 },
+    match command {
+        Command::Next => Counts { work: 2, ..WORK },
+        Command::Clock(_) => Counts { clocks: 1, ..WORK },
+        Command::Async(_, _) => Counts {
+            activities: 1,
+            ..WORK
+        },
+        Command::Acc(_, _) => Counts {
+            accumulators: 1,
+            ..WORK
+        },
+        _ => WORK,
     }
 }
 
 // The bytes from a command, whose byte is op, to the next of its body: the commands of an ATOM have two bytes each.
+#[tactic(auto, using(crate::proofs::RowLaws::width_few))]
 fn stride(op: u8, command: Command) -> usize
     ensures { (result ≡ width_at op + 2 * held command) × (result < 1024) }
 {
     width_at(op) + 2 * held(command)
 }
 
-// A count, saturated one above the greatest limit.
-fn capped(x: u64) -> u64
-    ensures { result ≡ cap x }
+// A count with a command more, saturated one above the greatest limit.
+#[tactic(auto, using(crate::proofs::TotalLaws::product))]
+fn sum(before: u64, own: u64, runs: u64, inner: u64) -> u64
+    requires { (before ≤ 65536) × ((own < 256) × ((runs < 256) × (inner ≤ 65536))) }
+    ensures { result ≡ cap (before + own + runs * inner) }
 {
-    if x < 65536 { x } else { 65536 }
+    (before + own + runs * inner).min(65536)
 }
 
-// The sums with a command more, which runs a body of these counts so many times.
-fn added(sums: [u64; 4], command: Command, runs: u64, counts: [u64; 4]) -> [u64; 4]
-    requires { (Small sums) × ((Small counts) × (runs < 256)) }
-    ensures { Added sums command runs counts result }
-{
-    let mut out = sums;
-    let mut k: usize = 0;
-    while k < 4 {
-        out[k] = capped(sums[k] + own(command, k) as u64 + runs * counts[k]);
-        k += 1;
-    }
-    out
-}
-
-// Fills the row of a body in the notes, which have zeros for a body that is not counted yet. It goes down into the bodies that its commands name, which have
-// greater numbers, and counts none twice.
-fn count(table: &[u8], code: &[u8], starts: &[usize], body: usize, notes: &mut [[u64; 4]])
-    requires { Counting table.now code.now starts.now body notes.old }
-    ensures { Filled table.now body notes.new }
-{
-    let mut sums = [0u64; 4];
-    let mut at: usize = 0;
-    let mut going = true;
-    while going {
-        let command = known(code, at);
-        at += stride(byte_at(code, at), command);
-        going = !is_end(command);
-        let runs = times(command);
-        if 0 < runs {
-            let b = named(command);
-            let row = notes[b];
-            if row[0] == 0 {
-                let start = starts[b];
-                count(table, &table[start..], starts, b, notes);
-            }
-            let with = added(sums, command, runs as u64, notes[b]);
-            sums = with;
-        } else {
-            let with = added(sums, command, 0, [0u64; 4]);
-            sums = with;
+impl Counts {
+    // These with a command more, which runs a body of the inner counts so many times.
+    fn with(self, command: Command, runs: u64, inner: Counts) -> Counts
+        requires { (Small self) × ((Small inner) × (runs < 256)) }
+        ensures { result ≡ added self command runs inner }
+    {
+        let own = own(command);
+        Counts {
+            work: sum(self.work, own.work, runs, inner.work),
+            activities: sum(self.activities, own.activities, runs, inner.activities),
+            clocks: sum(self.clocks, own.clocks, runs, inner.clocks),
+            accumulators: sum(
+                self.accumulators,
+                own.accumulators,
+                runs,
+                inner.accumulators,
+            ),
         }
     }
-    notes[body] = sums;
+}
+
+// The counts of a body, noted so that none is counted twice. It goes down into the bodies that its commands name, which have greater numbers.
+fn count_body(
+    table: &[u8],
+    code: &[u8],
+    starts: &[usize; 16],
+    body: usize,
+    notes: &mut [Option<Counts>; 16],
+) -> Counts
+    requires { Counting table.now code.now starts.now body notes.old }
+    ensures { Filled table.now body result notes.new }
+{
+    if let Some(counts) = notes[body] {
+        return counts;
+    }
+    let mut sums = NOTHING;
+    let mut at: usize = 0;
+    loop {
+        let command = known(code, at);
+        let runs = times(command);
+        let inner = if 0 < runs {
+            let b = named(command);
+            count_body(table, &table[starts[b]..], starts, b, notes)
+        } else {
+            NOTHING
+        };
+        sums = sums.with(command, runs as u64, inner);
+        if is_end(command) {
+            notes[body] = Some(sums);
+            return sums;
+        }
+        at += stride(byte_at(code, at), command);
+    }
 }
 
 // The four counts of body 0 of an accepted table, saturated.
-pub fn counts(table: &[u8], starts: &[usize]) -> [u64; 4]
+pub fn count_table(table: &[u8], starts: &[usize; 16]) -> Counts
     requires { (scan table.now ≡ 0) × (starts.now ≡ (layout_of table.now).starts) }
-    ensures { Counts table.now 0 result }
+    ensures { CountsOf table.now 0 result }
 {
-    let start = starts[0];
-    let mut notes = [[0u64; 4]; 16];
-    count(table, &table[start..], starts, 0, &mut notes);
-    notes[0]
+    count_body(table, &table[starts[0]..], starts, 0, &mut [None; 16])
 }

@@ -1,29 +1,18 @@
 // One command from the slice that starts at it.
-ghost use Rattle.std.specs.Prelude.{◌≡◌, ◌<◌, get_or, drop};
-ghost use Rattle.program.specs.Command.{word};
-ghost use Rattle.program.specs.Inner.Coding.{commands, Fitting, Made};
-ghost use Rattle.program.specs.Reading.{read, bare};
+ghost use Rattle.std.specs.Prelude.{◌≡◌, get_or, drop};
+ghost use Rattle.program.specs.Command.{row_of, operands_of, padded};
+ghost use Rattle.program.specs.Inner.Coding.{made};
+ghost use Rattle.program.specs.Reading.{all_inside, read, bare};
 
-use super::command::{Command, wide, width_at};
+use super::command::{Command, width_at};
+use super::refusal::Refusal;
 
-// What stands at the start of a slice.
-#[derive(Clone, Copy)]
-pub enum Reading {
-    // A whole command, and its bytes: of ATOM its own two.
-    Whole { command: Command, size: usize },
-    // No command has this byte: number 3.
-    Unknown,
-    // Bytes are missing: number 4.
-    Cut,
-    // An operand is outside its range: number 5.
-    Outside,
+// A whole command at the start of a slice, and its bytes: of ATOM its own two.
+#[derive(Clone, Copy, Debug, PartialEq, Eq)]
+pub struct Whole {
+    pub command: Command,
+    pub size: usize,
 }
-
-// How many commands there are: their bytes are the numbers below it.
-const COMMANDS: usize = 18;
-
-// The byte of PUT.
-const PUT: usize = 12;
 
 // A byte of a slice, 0 past its end.
 pub fn byte_at(code: &[u8], i: usize) -> u8
@@ -32,107 +21,80 @@ pub fn byte_at(code: &[u8], i: usize) -> u8
     if i < code.len() { code[i] } else { 0 }
 }
 
-// A byte as a number of 32 bits.
-fn wide32(x: u8) -> u32
-    ensures { (result ≡ x) × (result < 256) }
+// The first four bytes of a slice, 0 past its end.
+fn first_four(code: &[u8]) -> [u8; 4]
+    ensures { result ≡ padded code.now }
 {
-    x as u32
+    [
+        byte_at(code, 0),
+        byte_at(code, 1),
+        byte_at(code, 2),
+        byte_at(code, 3),
+    ]
 }
 
-// The number that the first four bytes of a slice make, the lowest first.
-fn value(code: &[u8]) -> u32
-    ensures { result ≡ word code.now }
+// The command of a byte with these operands, or none where no command has this byte.
+#[tactic(auto, unfolding(crate::specs::Inner::Coding::made, crate::specs::Command::command_of, crate::specs::Command::rows))]
+fn command_of(op: u8, operands: [u8; 4]) -> Option<Command>
+    ensures { result ≡ made op operands }
 {
-    let a = wide32(byte_at(code, 0));
-    let b = wide32(byte_at(code, 1));
-    let c = wide32(byte_at(code, 2));
-    let d = wide32(byte_at(code, 3));
-    a + 256 * b + 65536 * c + 16777216 * d
-}
-
-// The value that PUT has; 0 for the other command bytes, which need none.
-fn value_of(op: usize, code: &[u8]) -> u32
-    ensures { op ≡ 12 → result ≡ word code.now }
-{
-    if op == PUT { value(code) } else { 0 }
-}
-
-// The command of a byte with operands x and y, or, of PUT, the value v.
-fn command_of(op: usize, x: u8, y: u8, v: u32) -> Command
-    requires { op < commands }
-    ensures { Made op x y v result }
-{
+    let [x, y, _, _] = operands;
     match op {
-        0 => Command::End,
-        1 => Command::Next,
-        2 => Command::Clock(x),
-        3 => Command::Resume(x),
-        4 => Command::Drop(x),
-        5 => Command::Async(x, y),
-        6 => Command::Finish(x),
-        7 => Command::Repeat(x, y),
-        8 => Command::Acc(x, y),
-        9 => Command::Offer(x),
-        10 => Command::Read(x),
-        11 => Command::Reset(x),
-        12 => Command::Put(v),
-        13 => Command::Fetch(x),
-        14 => Command::Store(x),
-        15 => Command::Add(x),
-        16 => Command::Atom(x),
-        17 => Command::Choose(x),
-        _ => Command::End,
+        0 => Some(Command::End),
+        1 => Some(Command::Next),
+        2 => Some(Command::Clock(x)),
+        3 => Some(Command::Resume(x)),
+        4 => Some(Command::Drop(x)),
+        5 => Some(Command::Async(x, y)),
+        6 => Some(Command::Finish(x)),
+        7 => Some(Command::Repeat(x, y)),
+        8 => Some(Command::Acc(x, y)),
+        9 => Some(Command::Offer(x)),
+        10 => Some(Command::Read(x)),
+        11 => Some(Command::Reset(x)),
+        12 => Some(Command::Put(u32::from_le_bytes(operands))),
+        13 => Some(Command::Fetch(x)),
+        14 => Some(Command::Store(x)),
+        15 => Some(Command::Add(x)),
+        16 => Some(Command::Atom(x)),
+        17 => Some(Command::Choose(x)),
+        _ => None,
     }
 }
 
-// Whether the operands of a command byte, the first x and the second y, are inside their ranges.
-fn operands_fit(op: usize, x: u8, y: u8) -> bool
-    requires { op < commands }
-    ensures { Fitting op x y result }
+// Whether a command's operands are inside their ranges; that of a body is tried apart.
+#[tactic(auto, unfolding(crate::specs::Command::row_of, crate::specs::Command::row_at, crate::specs::Command::rows))]
+fn operands_fit(command: Command) -> bool
+    ensures { result ≡ all_inside (row_of command).operands (operands_of command) }
 {
-    match op {
-        2 => x < 8,
-        3 => x < 8,
-        4 => x < 8,
-        8 => x < 8 && y < 3,
-        9 => x < 8,
-        10 => x < 8,
-        11 => x < 8,
-        13 => x < 16,
-        14 => x < 16,
-        15 => x < 16,
-        16 => 1 <= x && x <= 8,
+    match command {
+        Command::Clock(c) | Command::Resume(c) | Command::Drop(c) => c < 8,
+        Command::Acc(a, o) => a < 8 && o < 3,
+        Command::Offer(a) | Command::Read(a) | Command::Reset(a) => a < 8,
+        Command::Fetch(d) | Command::Store(d) | Command::Add(d) => d < 16,
+        Command::Atom(k) => 1 <= k && k <= 8,
         _ => true,
     }
 }
 
 // The command at the start of a slice: numbers 3, 4 and 5 in this order.
-pub(crate) fn read(code: &[u8]) -> Reading
+pub(crate) fn read(code: &[u8]) -> Result<Whole, Refusal>
     ensures { result ≡ read code.now }
 {
-    if code.len() == 0 {
-        return Reading::Cut;
-    }
-    let op = wide(code[0]);
-    if COMMANDS <= op {
-        return Reading::Unknown;
-    }
-    let size = width_at(code[0]);
+    let [op, rest @ ..] = code else {
+        return Err(Refusal::Cut);
+    };
+    let Some(command) = command_of(*op, first_four(rest)) else {
+        return Err(Refusal::Unknown);
+    };
+    let size = width_at(*op);
     if code.len() < size {
-        return Reading::Cut;
+        return Err(Refusal::Cut);
     }
-    let rest = &code[1..];
-    let x = byte_at(rest, 0);
-    let y = byte_at(rest, 1);
-    if operands_fit(op, x, y) {
-        let v = value_of(op, rest);
-        Reading::Whole {
-            command: command_of(op, x, y, v),
-            size,
-        }
-    } else {
-        Reading::Outside
+    if !operands_fit(command) {
+        return Err(Refusal::Operand);
     }
+    Ok(Whole { command, size })
 }
 
 // The command at an offset, with nothing tried: for where a whole one is known to stand.
@@ -142,12 +104,7 @@ pub fn known(code: &[u8], offset: usize) -> Command
     if code.len() <= offset {
         return Command::End;
     }
-    let op = wide(code[offset]);
-    if COMMANDS <= op {
-        return Command::End;
-    }
-    let rest = &code[offset + 1..];
-    let x = byte_at(rest, 0);
-    let y = byte_at(rest, 1);
-    command_of(op, x, y, value_of(op, rest))
+    let op = code[offset];
+    let operands = first_four(&code[offset + 1..]);
+    command_of(op, operands).unwrap_or(Command::End)
 }

@@ -1,75 +1,47 @@
 // A whole table: numbers 1 to 8, where each body begins, and the place of every command.
-ghost use Rattle.std.specs.Prelude.{◌≡◌, ◌+◌, ◌<◌, ◌≤◌, length};
-ghost use Rattle.program.specs.Reading.{refusal_of, readings};
-ghost use Rattle.program.specs.Scan.{name_fits, placing, left_after};
+ghost use Rattle.std.specs.Prelude.{◌≡◌, ◌+◌, ◌<◌, ◌≤◌, length, replicate};
+ghost use Rattle.program.specs.Reading.{readings};
+ghost use Rattle.program.specs.Scan.{name_fits, placing, left_after, scan, layout_of};
 ghost use Rattle.program.specs.Places.{places_of};
-ghost use Rattle.program.specs.Inner.Scanned.{opening, extent_of, mark_of, MarksBody, number_in, refused_by, scanned_of};
+ghost use Rattle.program.specs.Refusal.{answered};
+ghost use Rattle.program.specs.Inner.Scanned.{opening, extent_of, mark_of, MarksBody};
 
 use super::command::{Command, held, is_end, named, names, uses_cell, wide};
-use super::reading::{Reading, read};
+use super::reading::{Whole, read};
+use super::refusal::Refusal;
 
-// The number of bodies, and the byte at which each begins. A refused table has no bodies.
-#[derive(Clone, Copy)]
+// The number of bodies, and the byte at which each begins: in fixed memory, with 0 past the last.
+#[derive(Clone, Copy, Debug, PartialEq, Eq)]
 pub struct Layout {
     pub bodies: usize,
     pub starts: [usize; 16],
 }
 
-// A body: the number of its first failing command, or its bytes.
-#[derive(Clone, Copy)]
-pub enum Extent {
-    Refused(u8),
-    Ended(usize),
-}
-
-// The number 1 to 8 for which a table is turned down, or 0; and its layout.
-#[derive(Clone, Copy)]
-pub struct Scanned {
-    pub number: u8,
-    pub layout: Layout,
-}
-
-// The number of a reading that found no whole command.
-fn refusal(found: Reading) -> u8
-    ensures { result ≡ refusal_of found }
-{
-    match found {
-        Reading::Whole {
-            command: _,
-            size: _,
-        } => 0,
-        Reading::Unknown => 3,
-        Reading::Cut => 4,
-        Reading::Outside => 5,
-    }
-}
-
 // Whether a command of a body names a later one, where it names one.
+#[tactic(auto, unfolding(crate::specs::Scan::name_fits))]
 fn name_fits(bodies: usize, body: usize, command: Command) -> bool
     ensures { result ≡ name_fits bodies body command }
 {
-    if names(command) {
-        let b = named(command);
-        body < b && b < bodies
-    } else {
-        true
-    }
+    let b = named(command);
+    !names(command) || (body < b && b < bodies)
 }
 
-// Numbers 6 and 7 in this order, or 0, where `left` commands still belong to an ATOM.
-fn placing(bodies: usize, body: usize, left: usize, command: Command) -> u8
-    ensures { result ≡ placing bodies body left command }
+// Numbers 6 and 7 in this order, where `left` commands still belong to an ATOM.
+#[tactic(auto, unfolding(crate::specs::Scan::placing, crate::specs::Scan::atom_fits))]
+fn placing(bodies: usize, body: usize, left: usize, command: Command) -> Result<(), Refusal>
+    ensures { result ≡ answered (placing bodies body left command) tt }
 {
     if !name_fits(bodies, body, command) {
-        return 6;
+        return Err(Refusal::Named);
     }
-    if left == 0 {
-        return 0;
+    if left != 0 && !uses_cell(command) {
+        return Err(Refusal::Atom);
     }
-    if uses_cell(command) { 0 } else { 7 }
+    Ok(())
 }
 
 // How many commands belong to an ATOM after a command.
+#[tactic(auto, unfolding(crate::specs::Scan::left_after))]
 fn left_after(left: usize, command: Command) -> usize
     ensures { result ≡ left_after left command }
 {
@@ -84,14 +56,15 @@ fn mark(body: usize, left: usize) -> u8
     if left == 0 { (body + 1) as u8 } else { 0 }
 }
 
-// The body at the start of a slice, whose first byte is byte `first` of the table. Its commands are marked.
+// The bytes of the body at the start of a slice, whose first byte is byte `first` of the table. Its commands are marked. The loop goes by widths that it reads, so no range has
+// the places; the read command is taken apart by `let .. else`, document 01's form, and not by `?`.
 fn body_extent(
     code: &[u8],
     bodies: usize,
     body: usize,
     first: usize,
     marks: &mut [u8; 2048],
-) -> Extent
+) -> Result<usize, Refusal>
     requires { (body < 16) × (first + length code.now ≤ 2048) }
     ensures value { result ≡ extent_of bodies body 0 0 (readings code.now) }
     ensures marks_body { MarksBody body code.now first marks.old marks.new result }
@@ -99,96 +72,65 @@ fn body_extent(
     let mut at: usize = 0;
     let mut left: usize = 0;
     loop {
+        // The else branch gives the reader's number.
         let found = read(&code[at..]);
-        let Reading::Whole { command, size } = found else {
-            return Extent::Refused(refusal(found));
+        let Ok(Whole { command, size }) = found else {
+            return Err(found.unwrap_err());
         };
-        let number = placing(bodies, body, left, command);
-        if number != 0 {
-            return Extent::Refused(number);
-        }
+        placing(bodies, body, left, command)?;
         marks[first + at] = mark(body, left);
         at += size;
         if is_end(command) {
-            return Extent::Ended(at);
+            return Ok(at);
         }
         left = left_after(left, command);
     }
 }
 
-// Numbers 1 and 2 in this order, or 0.
-fn opening(table: &[u8]) -> u8
-    ensures { result ≡ opening table.now }
+// Numbers 1 and 2 in this order.
+#[tactic(auto, unfolding(crate::specs::Inner::Scanned::opening, crate::specs::Scan::fits_length, crate::specs::Scan::fits_bodies))]
+fn opening(table: &[u8]) -> Result<(), Refusal>
+    ensures { result ≡ answered (opening table.now) tt }
 {
-    if table.len() < 2 {
-        return 1;
+    if table.len() < 2 || 2048 < table.len() {
+        return Err(Refusal::Size);
     }
-    if 2048 < table.len() {
-        return 1;
+    if table[0] < 1 || 16 < table[0] {
+        return Err(Refusal::Bodies);
     }
-    let bodies = wide(table[0]);
-    if bodies < 1 {
-        return 2;
-    }
-    if 16 < bodies {
-        return 2;
-    }
-    0
+    Ok(())
 }
 
-// The answer to a table that is turned down.
-fn refused(number: u8) -> Scanned
-    ensures { result ≡ refused_by number }
+// Reads a whole table: numbers 1 to 8 in checking order, and where each body begins. The commands before the first failing one are marked.
+fn lay(table: &[u8], marks: &mut [u8; 2048]) -> Result<Layout, Refusal>
+    requires { marks.old ≡ replicate 2048 0 }
+    ensures value { result ≡ answered (scan table.now) (layout_of table.now) }
+    ensures marks_after { scan table.now ≡ 0 → marks.new ≡ places_of table.now }
 {
-    Scanned {
-        number,
-        layout: Layout {
-            bodies: 0,
-            starts: [0usize; 16],
-        },
-    }
-}
-
-// The number of a body's extent, 0 where it has an end.
-fn number_in(extent: Extent) -> u8
-    ensures { result ≡ number_in extent }
-{
-    match extent {
-        Extent::Refused(number) => number,
-        Extent::Ended(_) => 0,
-    }
-}
-
-// Reads a whole table: numbers 1 to 8 in checking order, where each body begins, and the marks, all 0 where the table is turned down.
-pub fn scan(table: &[u8], marks: &mut [u8; 2048]) -> Scanned
-    ensures value { result ≡ scanned_of table.now }
-    ensures marks_after { marks.new ≡ places_of table.now }
-{
-    *marks = [0u8; 2048];
-    let number = opening(table);
-    if number != 0 {
-        return refused(number);
-    }
+    opening(table)?;
     let bodies = wide(table[0]);
     let mut starts = [0usize; 16];
     let mut at: usize = 1;
-    let mut body: usize = 0;
-    while body < bodies {
-        let found = body_extent(&table[at..], bodies, body, at, marks);
-        let Extent::Ended(size) = found else {
-            *marks = [0u8; 2048];
-            return refused(number_in(found));
-        };
+    for body in 0..bodies {
+        let size = body_extent(&table[at..], bodies, body, at, marks)?;
         starts[body] = at;
         at += size;
-        body += 1;
     }
     if at < table.len() {
+        return Err(Refusal::Surplus);
+    }
+    Ok(Layout { bodies, starts })
+}
+
+// The same, with the marks of a table that is turned down all 0.
+pub fn scan(table: &[u8], marks: &mut [u8; 2048]) -> Result<Layout, Refusal>
+    ensures value { result ≡ answered (scan table.now) (layout_of table.now) }
+    ensures marks_after { marks.new ≡ places_of table.now }
+{
+    *marks = [0u8; 2048];
+    let found = lay(table, marks);
+    if found.is_err() {
         *marks = [0u8; 2048];
-        return refused(8);
     }
-    Scanned {
-        number: 0,
-        layout: Layout { bodies, starts },
-    }
+    found
 }

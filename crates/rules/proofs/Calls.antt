@@ -6,12 +6,12 @@ use mathlib.Core.Path.{◌≡◌, refl}
 use mathlib.Core.Logic.{◌⊎◌, inl, inr}
 use lib.Dec.{ltb, leb}
 use borrow.Author.Tests.{lt-ltb}
+use Rattle.std.specs.Prelude.{Ok}
 use Rattle.program.specs.declared.command.Command.{Command}
 use Rattle.rules.specs.declared.state.Status.{Status}
 use Rattle.rules.specs.declared.state.Status.TheVariants.{Running, AtBarrier, Ended, Faulted}
 use Rattle.rules.specs.declared.state.Activity.{Activity}
 use Rattle.rules.specs.declared.state.State.{State}
-use Rattle.rules.specs.declared.answer.Answer.TheVariants.{Accepted}
 use Rattle.rules.specs.declared.answer.Stepped.{Stepped}
 use Rattle.program.specs.Bodies.{Program}
 use Rattle.program.specs.Table.{number_of}
@@ -25,7 +25,7 @@ use Rattle.rules.proofs.Shapes.{Kind, ends, meets, forks, opens, enters, moves}
 
 -- A step taken answers with the activity's status after it.
 abbrev pub taken_as : State → ℕ → Effect → Stepped
-taken_as s i e = stepped (Accepted e.self.status) (applied s i e)
+taken_as s i e = stepped (Ok e.self.status) (applied s i e)
 
 -- The start of an accepted table.
 pub start_taken : (l : Limits) (t : List ℕ) → number_of l.work t ≡ 0 → (start l t).state ≡ start_state
@@ -44,7 +44,7 @@ refused_waits p s i h l e = go (decide (waits p s i))
 -- FAULTS
 
 -- An unended activity after a step without a fault has not faulted.
-unfaulted : (t : Status) → is_ended t ≡ false → is_fault (Accepted t) ≡ false
+unfaulted : (t : Status) → is_ended t ≡ false → is_fault (Ok t) ≡ false
 unfaulted Running e = refl
 unfaulted AtBarrier e = refl
 unfaulted Ended e = absurd (true_false true refl e)
@@ -52,17 +52,17 @@ unfaulted (Faulted f) e = absurd (true_false true refl e)
 
 -- By the kind of the command.
 pub no_fault : {p : Program} {e : Env} {i : ℕ} {a : Activity} {c : Command} {x : Effect} → is_ended a.status ≡ false → Kind p e i a c x
-    → is_fault (Accepted x.self.status) ≡ false
+    → is_fault (Ok x.self.status) ≡ false
 unfolding past pushed end_of again popped next_of
 no_fault {p} {e} {i} {a} u (ends q s n) = rw s (go (leb a.depth 1) (ltb 1 (top a).runs))
   where
-    go : (x y : Bool) → is_fault (Accepted (cond x (stopped a Ended) (cond y (again a) (popped p a))).status) ≡ false
+    go : (x y : Bool) → is_fault (Ok (cond x (stopped a Ended) (cond y (again a) (popped p a))).status) ≡ false
     go true y = refl
     go false true = unfaulted a.status u
     go false false = unfaulted a.status u
 no_fault {p} {e} {i} {a} u (meets q s n) = rw s (go (is_at_barrier a.status))
   where
-    go : (b : Bool) → is_fault (Accepted (next_of p a b).status) ≡ false
+    go : (b : Bool) → is_fault (Ok (next_of p a b).status) ≡ false
     go true = refl
     go false = refl
 no_fault {p} {e} {i} {a} u (forks b m q s n) = rw s (unfaulted a.status u)

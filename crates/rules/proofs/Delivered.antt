@@ -6,8 +6,12 @@ use mathlib.Core.List.{List}
 use mathlib.Core.Bool.{true, false, ◌&&◌}
 use mathlib.Core.Path.{◌≡◌, refl, sym, ap, ◌∙◌}
 use lib.Dec.{eqb}
+use Rattle.std.specs.Prelude.{Err}
 use Rattle.program.specs.declared.command.Command.TheVariants.{End}
 use Rattle.program.specs.Command.{is_end}
+use Rattle.program.specs.declared.refusal.Refusal.{Refusal}
+use Rattle.program.specs.declared.refusal.Refusal.TheVariants.{Spent}
+use Rattle.program.specs.Refusal.{refusal_number, refusal_at}
 use Rattle.program.specs.Bodies.{Program, program_of}
 use Rattle.rules.specs.declared.state.Status.{Status}
 use Rattle.rules.specs.declared.state.Status.TheVariants.{Running, AtBarrier, Ended, Faulted}
@@ -18,12 +22,13 @@ use Rattle.rules.specs.Tree.{in_finish_body, inside}
 use Rattle.rules.specs.Faults.{fault_for, faulted_inside, spoilt}
 use Rattle.rules.specs.Waiting.{unended_inside, waits_for}
 use Rattle.rules.specs.Effects.{Effect, env_of}
-use Rattle.rules.specs.Steps.{Limits, at, breach, fault, effect, step}
+use Rattle.rules.specs.Steps.{Limits, at, breach, fault, effect, stepped, step}
 use Rattle.rules.proofs.Tests.{and_false, true_false, not-false}
 use Rattle.rules.proofs.Search.{some_below_none}
 use Rattle.rules.proofs.Awaited.{waits_at, waits_live}
 use Rattle.rules.proofs.Shapes.{kind, is_end_lem}
 use Rattle.rules.proofs.Turn.{Turn, turn, faultless, effect_failed}
+use Rattle.rules.proofs.AnswerNumbers.{number_positive}
 use Rattle.rules.proofs.StepLaws.{Outcome, unfits, refuses, overflows, takes, outcome}
 
 -- Who has not ended has not faulted.
@@ -73,10 +78,15 @@ step_faultless l t s i e = go (outcome l t s i)
         let q : 100 + fault_number (fault_of (fault p s i)) ≡ 0 = sym (ap (λ (x : Effect). status_answer x.self.status) (effect_failed p s i f)) ∙ z in
         absurd (omega arith)
 
+    turned_down : (r : Refusal) → step l t s i ≡ stepped (Err r) s → Turn p s i × (fault p s i ≡ 0)
+    turned_down r d =
+        let z : refusal_number r ≡ 0 = sym (ap (λ (x : Stepped). answer_number x.answer) d) ∙ e in
+        absurd (omega (arith, number_positive r))
+
     go : Outcome l t s i → Turn p s i × (fault p s i ≡ 0)
-    go (unfits n q h d) = absurd (h (sym (ap (λ (x : Stepped). answer_number x.answer) d) ∙ e))
-    go (refuses n q h d) = absurd (h (sym (ap (λ (x : Stepped). answer_number x.answer) d) ∙ e))
-    go (overflows q x d) = let z : ◌≡◌ {A = ℕ} 17 0 = sym (ap (λ (x : Stepped). answer_number x.answer) d) ∙ e in absurd (omega arith)
+    go (unfits n q h d) = turned_down (refusal_at n) d
+    go (refuses n q h d) = turned_down (refusal_at n) d
+    go (overflows q x d) = turned_down Spent d
     go (takes a b c x d) = (turn p s i c, meets_none (sym (ap (λ (x : Stepped). answer_number x.answer) d) ∙ e) (ℕ_discrete (fault p s i) 0))
 
 -- So where the step of one that stands on the END of a FINISH body is answered with 0, each activity inside has ended, and not by a fault.

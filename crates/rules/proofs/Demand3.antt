@@ -7,8 +7,9 @@ use mathlib.Core.List.{List, [], ◌∷◌, ◌++◌}
 use mathlib.Core.Bool.{Bool, true, false, cond, ◌||◌, ◌&&◌, not}
 use mathlib.Core.Path.{◌≡◌, refl, sym, ap, ◌∙◌, subst}
 use borrow.Author.Tests.{eqb-true, eqb-false, ne_eqb, le-leb}
+use Rattle.std.specs.Prelude.{Err}
 use Rattle.rules.specs.declared.state.State.{State}
-use Rattle.rules.specs.declared.answer.Answer.TheVariants.{Refused}
+use Rattle.program.specs.Refusal.{refusal_at, told}
 use Rattle.rules.specs.declared.answer.Stepped.{Stepped}
 use Rattle.program.specs.Bodies.{program_of, Program}
 use Rattle.program.specs.Command.{named}
@@ -22,14 +23,15 @@ use Rattle.rules.specs.Clocks.{quiescent}
 use Rattle.rules.specs.Faults.{bit}
 use Rattle.rules.specs.Effects.{applied, env_of}
 use Rattle.rules.specs.WellFormed.{well_formed}
-use Rattle.rules.specs.Steps.{Limits, at, refusal, start, step, stepped, fault, effect, start_state, ready, can_step, waits}
+use Rattle.rules.specs.Steps.{Limits, at, refusal, start, step, stepped, fault, effect, start_state, ready, ready_set, can_step, waits}
 use Rattle.rules.specs.Runs.{taken, run, run_from, answers, answers_from, is_accepted, is_fault, some_fault, finished, skips, spares, spared_from, spared, all_ran_from, all_ran}
 use Rattle.rules.specs.Demand3.{is_of_run, all_of_run, Demand3, AtEveryPoint}
 use Rattle.rules.proofs.Tests.{true_false, and_true, and_intro}
 use Rattle.rules.proofs.Search.{all_below_intro, all_below_at}
 use Rattle.rules.proofs.Sums.{sum_below, sum_below_same}
 use Rattle.rules.proofs.Bits.{zero_bits, bits_zero}
-use Rattle.rules.proofs.StepLaws.{fit, outcome, Outcome, unfits, refuses, overflows, takes, refusal_number, ready_bit}
+use Rattle.rules.proofs.StepLaws.{fit, outcome, Outcome, unfits, refuses, overflows, takes, ready_bit}
+use Rattle.rules.proofs.AnswerNumbers.{refusal_range, refused_number, ready_number}
 use Rattle.rules.proofs.WellFormedStep.{step_well_formed}
 use Rattle.rules.proofs.WellFormedStart.{start_well_formed}
 use Rattle.rules.proofs.Shapes.{kind}
@@ -51,7 +53,7 @@ pub record Good (l : Limits) (t : List ℕ) (s : State) : Type 0 where
 
 -- What a call of a step comes to there.
 pub data Call (l : Limits) (t : List ℕ) (s : State) (i : ℕ) : Type 0 where
-  refused : (refusal (program_of t) s i ≡ 0 → ⊥) → step l t s i ≡ stepped (Refused (refusal (program_of t) s i)) s → Call l t s i
+  refused : (refusal (program_of t) s i ≡ 0 → ⊥) → step l t s i ≡ stepped (Err (refusal_at (refusal (program_of t) s i))) s → Call l t s i
   performed : refusal (program_of t) s i ≡ 0 → fault (program_of t) s i ≡ 0 → step l t s i ≡ taken_as s i (doing (program_of t) s i) → Call l t s i
   faulted : refusal (program_of t) s i ≡ 0 → (fault (program_of t) s i ≡ 0 → ⊥) → step l t s i ≡ taken_as s i (failed (program_of t) s i) → Call l t s i
 
@@ -86,10 +88,10 @@ module _ (l : Limits) (t : List ℕ) (w : l.work ≤ l.phase) (n : number_of l.w
       go (takes a b c x e) = e
 
   -- And who is turned down, is with 14, 15 or 16.
-  refusing : (s : State) → Good l t s → (i : ℕ) → (refusal p s i ≡ 0 → ⊥) → step l t s i ≡ stepped (Refused (refusal p s i)) s
+  refusing : (s : State) → Good l t s → (i : ℕ) → (refusal p s i ≡ 0 → ⊥) → step l t s i ≡ stepped (Err (refusal_at (refusal p s i))) s
   refusing s g i r = go (outcome l t s i)
     where
-      go : Outcome l t s i → step l t s i ≡ stepped (Refused (refusal p s i)) s
+      go : Outcome l t s i → step l t s i ≡ stepped (Err (refusal_at (refusal p s i))) s
       go (unfits k q h e) = absurd (h (sym q ∙ fit l t s n g.fit))
       go (refuses k q h e) = rw q e
       go (overflows q x e) = absurd (r q)
@@ -138,8 +140,8 @@ module _ (l : Limits) (t : List ℕ) (w : l.work ≤ l.phase) (n : number_of l.w
     where
       go : Call l t s i → is_of_run (step l t s i).answer ≡ true
       go (refused r e) =
-          let q = refusal_number p s i r in
-          subst (λ x. is_of_run x.answer ≡ true) (sym e) (and_intro _ _ (le-leb _ _ q.0) (le-leb _ _ q.1))
+          let q = refusal_range p s i r in
+          subst (λ x. is_of_run x.answer ≡ true) (sym e) (rw (refused_number p s i r) (and_intro _ _ (le-leb _ _ q.0) (le-leb _ _ q.1)))
       go (performed r f e) = subst (λ x. is_of_run x.answer ≡ true) (sym e) refl
       go (faulted r f e) = subst (λ x. is_of_run x.answer ≡ true) (sym e) refl
 
@@ -298,17 +300,16 @@ module _ (l : Limits) (t : List ℕ) (w : l.work ≤ l.phase) (n : number_of l.w
 
   module _ (s : State) (g : Good l t s) where
     -- The ready set is given.
-    ready_number_lem : (ready l t s).number ≡ 0
-    unfolding ready
-    ready_number_lem = fit l t s n g.fit
+    ready_number_lem : told (ready l t s) ≡ 0
+    ready_number_lem = ready_number l t s ∙ fit l t s n g.fit
 
     -- It has those who can step.
-    pub ready_set_lem : (ready l t s).set ≡ bits_below 64 (can_step p s)
+    pub ready_set_lem : ready_set (ready l t s) ≡ bits_below 64 (can_step p s)
     unfolding ready
     ready_set_lem = rw (fit l t s n g.fit)
 
     -- It is empty only when all have ended.
-    pub alive : (ready l t s).set ≡ 0 → finished s ≡ true
+    pub alive : ready_set (ready l t s) ≡ 0 → finished s ≡ true
     unfolding finished can_step
     alive e = all_below_intro s.activities (ended s) (never_still p s g.reached waiting)
       where
@@ -318,7 +319,7 @@ module _ (l : Limits) (t : List ℕ) (w : l.work ≤ l.phase) (n : number_of l.w
             refused_waits p s i (eqb-false _ _ z) m u
 
     -- And then it is.
-    over : finished s ≡ true → (ready l t s).set ≡ 0
+    over : finished s ≡ true → ready_set (ready l t s) ≡ 0
     unfolding finished can_step
     over e = ready_set_lem ∙ bits_zero 64 (can_step p s) (λ i m. ne_eqb _ _ (stopped_at i))
       where
@@ -326,7 +327,7 @@ module _ (l : Limits) (t : List ℕ) (w : l.work ≤ l.phase) (n : number_of l.w
         stopped_at i r = let o = turn p s i r in true_false _ (all_below_at s.activities (ended s) e i o.spawned) o.unended
 
     -- Who is in it can step.
-    steps : (i : ℕ) → bit (ready l t s).set i ≡ true → is_accepted (step l t s i).answer ≡ true
+    steps : (i : ℕ) → bit (ready_set (ready l t s)) i ≡ true → is_accepted (step l t s i).answer ≡ true
     unfolding can_step
     steps i b =
         let q = sym (ready_bit l t s n g.fit i) ∙ b in

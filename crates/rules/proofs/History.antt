@@ -5,7 +5,7 @@ use Prim.Native.Nat.{ℕ, zero, suc, ◌-◌, ◌≤◌, ◌<◌}
 use native.Mathlib.Omega.{arith}
 use native.Mathlib.Decide.{ℕ_discrete}
 use mathlib.Core.List.{List, [], ◌∷◌}
-use mathlib.Core.Bool.{Bool, true, false, cond, ◌||◌, ◌&&◌}
+use mathlib.Core.Bool.{true, false, cond, ◌||◌, ◌&&◌, and-false}
 use mathlib.Core.Path.{◌≡◌, refl, sym, ap, ◌∙◌, subst}
 use mathlib.Core.Logic.{◌⊎◌, inl, inr}
 use lib.Dec.{ltb, leb, eqb}
@@ -37,11 +37,6 @@ use Rattle.rules.proofs.PersistTree.{entry, chain_old, spawner_new, grown}
 use Rattle.rules.proofs.HistoryOpen.{Open, open_test, open_first, Opened, begun, before, opened}
 use Rattle.rules.proofs.StepLaws.{Outcome, unfits, refuses, overflows, takes, outcome}
 
--- a test that fails, on the right
-and_false_right : (a : Bool) → a && false ≡ false
-and_false_right true = refl
-and_false_right false = refl
-
 -- equal either way round
 eqb_sym : (a b : ℕ) → eqb a b ≡ eqb b a
 eqb_sym a b = go (ℕ_discrete a b)
@@ -60,7 +55,7 @@ chain_late sp n falls first w (suc f) x h m = go (chain_late sp n falls first w 
         → ltb w x && ((eqb (sp x) w && leb first x) || chain sp (leb first) w f (sp x)) ≡ false
     go ih (inl e) =
         let q = falls x (omega (arith, ltb-true w x e)) h in
-        rw (e, lt-leb first x m, ih (omega arith) (omega arith), and_false_right (eqb (sp x) w))
+        rw (e, lt-leb first x m, ih (omega arith) (omega arith), and-false (eqb (sp x) w))
     go ih (inr e) = rw e
 
 -- What the history and the state have to do with each other.
@@ -127,7 +122,7 @@ module _ (l : Limits) {p : Program} (ok : Accepted p) {s : State} (f : Facts l.p
         → cond (spawns_now p s i x) ((eqb w i && is_finish_body p (act s w) d) || h w d i) (h w d x) ≡ inside (after p s i) w (frame (act s w) d).first x
     unfolding spawns_now inside
     told_old w d x a u o m =
-        rw (ne_eqb x s.activities (λ q. omega arith), and_false_right (spawns (effect p s i).spawned))
+        rw (ne_eqb x s.activities (λ q. omega arith), and-false (spawns (effect p s i).spawned))
         (y.told w d x a u o m ∙ unfold inside in sym (chain_old l ok f z i t r (leb (frame (act s w) d).first) w x m))
 
     -- who is spawned now
@@ -176,7 +171,7 @@ module _ (l : Limits) {p : Program} (ok : Accepted p) {s : State} (f : Facts l.p
         no_begin : Dec (w ≡ i) → eqb w i && (is_finish (here p (top (act s i))).command && eqb d (act s i).depth) ≡ false
         no_begin (yes e) =
             let k : d < (act s i).depth = subst (λ w. d < (act s w).depth) e o.below in
-            rw (eq-eqb w i e, ne_eqb d (act s i).depth (λ q. omega arith)) (and_false_right (is_finish (here p (top (act s i))).command))
+            rw (eq-eqb w i e, ne_eqb d (act s i).depth (λ q. omega arith)) (and-false (is_finish (here p (top (act s i))).command))
         no_begin (no e) = rw (ne_eqb w i e)
 
         go : Now s i (effect p s i) x

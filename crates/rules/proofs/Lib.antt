@@ -16,6 +16,7 @@ pub mod WellFormedApply
 pub mod WellFormedStep
 pub mod WellFormedStart
 pub mod Bits
+pub mod AnswerNumbers
 pub mod StepLaws
 pub mod PersistBehind
 pub mod PersistTree

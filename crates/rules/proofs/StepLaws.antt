@@ -7,20 +7,23 @@ use mathlib.Core.List.{List}
 use mathlib.Core.Bool.{Bool, true, false, cond}
 use mathlib.Core.Path.{◌≡◌, refl, sym, ap, ◌∙◌}
 use mathlib.Core.Logic.{◌⊎◌, inl, inr}
-use lib.Dec.{ltb, eqb}
+use lib.Dec.{eqb}
 use borrow.Author.Tests.{le-ltb, eqb-true, eqb-false, ne_eqb}
+use Rattle.std.specs.Prelude.{Ok, Err}
 use Rattle.program.specs.Bodies.{Program, program_of}
 use Rattle.program.specs.Table.{number_of}
+use Rattle.program.specs.Refusal.{refusal_number, refusal_at}
+use Rattle.program.specs.declared.refusal.Refusal.{Refusal}
+use Rattle.program.specs.declared.refusal.Refusal.TheVariants.{Spent}
 use Rattle.rules.specs.declared.state.State.{State}
-use Rattle.rules.specs.declared.answer.Answer.{Answer}
-use Rattle.rules.specs.declared.answer.Answer.TheVariants.{Accepted, Refused}
 use Rattle.rules.specs.Search.{bits_below}
-use Rattle.rules.specs.State.{ended}
+use Rattle.rules.specs.State.{Answer}
 use Rattle.rules.specs.Faults.{bit}
 use Rattle.rules.specs.Effects.{applied}
 use Rattle.rules.specs.WellFormed.{well_formed}
-use Rattle.rules.specs.Steps.{Limits, waits, effect, refusal, exceeds, stepped, advance, unfit, step_with, step, can_step, ready}
+use Rattle.rules.specs.Steps.{ready_set, Limits, effect, refusal, exceeds, stepped, advance, unfit, step_with, step, can_step, ready}
 use Rattle.rules.specs.Runs.{is_accepted}
+use Rattle.rules.proofs.AnswerNumbers.{number_back, refusal_range}
 use Rattle.rules.proofs.Tests.{true_false, decide}
 use Rattle.rules.proofs.Bits.{bit_at, bit_past}
 use Rattle.rules.proofs.WellFormedFacts.{Facts, facts}
@@ -37,11 +40,11 @@ module _ (l : Limits) (t : List ℕ) (s : State) (i : ℕ) where
 
   -- What the call does.
   pub data Outcome : Type 0 where
-    unfits : (n : ℕ) → unfit l (number_of l.work t) p s ≡ n → (n ≡ 0 → ⊥) → step l t s i ≡ stepped (Refused n) s → Outcome
-    refuses : (n : ℕ) → refusal p s i ≡ n → (n ≡ 0 → ⊥) → step l t s i ≡ stepped (Refused n) s → Outcome
-    overflows : refusal p s i ≡ 0 → exceeds l p s (effect p s i) ≡ true → step l t s i ≡ stepped (Refused 17) s → Outcome
+    unfits : (n : ℕ) → unfit l (number_of l.work t) p s ≡ n → (n ≡ 0 → ⊥) → step l t s i ≡ stepped (Err (refusal_at n)) s → Outcome
+    refuses : (n : ℕ) → refusal p s i ≡ n → (n ≡ 0 → ⊥) → step l t s i ≡ stepped (Err (refusal_at n)) s → Outcome
+    overflows : refusal p s i ≡ 0 → exceeds l p s (effect p s i) ≡ true → step l t s i ≡ stepped (Err Spent) s → Outcome
     takes : number_of l.work t ≡ 0 → well_formed l.phase p s ≡ true → refusal p s i ≡ 0 → exceeds l p s (effect p s i) ≡ false
-        → step l t s i ≡ stepped (Accepted (effect p s i).self.status) (applied s i (effect p s i)) → Outcome
+        → step l t s i ≡ stepped (Ok (effect p s i).self.status) (applied s i (effect p s i)) → Outcome
 
   -- no number 1 to 13
   fit_parts : unfit l (number_of l.work t) p s ≡ 0 → (number_of l.work t ≡ 0) × (well_formed l.phase p s ≡ true)
@@ -61,8 +64,8 @@ module _ (l : Limits) (t : List ℕ) (s : State) (i : ℕ) where
     where
       go : (x : Bool) → eqb (unfit l (number_of l.work t) p s) 0 ≡ x → (y : Bool) → eqb (refusal p s i) 0 ≡ y → (z : Bool) → exceeds l p s (effect p s i) ≡ z
           → step l t s i
-          ≡ cond x (cond y (cond z (stepped (Refused 17) s) (stepped (Accepted (effect p s i).self.status) (applied s i (effect p s i)))) (stepped (Refused (refusal p s i)) s))
-          (stepped (Refused (unfit l (number_of l.work t) p s)) s)
+          ≡ cond x (cond y (cond z (stepped (Err Spent) s) (stepped (Ok (effect p s i).self.status) (applied s i (effect p s i)))) (stepped (Err (refusal_at (refusal p s i))) s))
+          (stepped (Err (refusal_at (unfit l (number_of l.work t) p s))) s)
           → Outcome
       go false a y b z c e = unfits _ refl (eqb-false _ 0 a) e
       go true a false b z c e = refuses _ refl (eqb-false _ 0 b) e
@@ -70,15 +73,15 @@ module _ (l : Limits) (t : List ℕ) (s : State) (i : ℕ) where
       go true a true b false c e = let q = fit_parts (eqb-true _ 0 a) in takes q.0 q.1 (eqb-true _ 0 b) c e
 
   -- a refused step returns the state it was handed
-  pub step_refused : (n : ℕ) → (step l t s i).answer ≡ Refused n → (step l t s i).state ≡ s
-  step_refused n e = go outcome
+  pub step_refused : (r : Refusal) → (step l t s i).answer ≡ Err r → (step l t s i).state ≡ s
+  step_refused r e = go outcome
     where
       go : Outcome → (step l t s i).state ≡ s
       go (unfits m q h d) = ap (λ x. x.state) d
       go (refuses m q h d) = ap (λ x. x.state) d
       go (overflows q x d) = ap (λ x. x.state) d
       go (takes a b c x d) =
-          let g : Accepted (effect p s i).self.status ≡ Refused n = sym (ap (λ x. x.answer) d) ∙ e in
+          let g : Ok (effect p s i).self.status ≡ Err r = sym (ap (λ x. x.answer) d) ∙ e in
           absurd (true_false true refl (ap is_accepted g))
 
   -- an accepted step raises the steps by one
@@ -94,29 +97,18 @@ module _ (l : Limits) (t : List ℕ) (s : State) (i : ℕ) where
 
 -- Not 14 to 16: a step or a fault, or 17.
 abbrev pub may_go : Answer → Bool
-may_go (Accepted status) = true
-may_go (Refused n) = eqb n 17
+may_go (Ok status) = true
+may_go (Err e) = eqb (refusal_number e) 17
 
 -- who has not been spawned may not step
 refusal_past : (p : Program) (s : State) (i : ℕ) → s.activities ≤ i → refusal p s i ≡ 14
 unfolding refusal
 refusal_past p s i h = rw (le-ltb i s.activities h)
 
--- the number is one of 14 to 16
-pub refusal_number : (p : Program) (s : State) (i : ℕ) → (refusal p s i ≡ 0 → ⊥) → (14 ≤ refusal p s i) × (refusal p s i ≤ 16)
-unfolding refusal
-refusal_number p s i = go (ltb i s.activities) (ended s i) (waits p s i)
-  where
-    go : (x y z : Bool) → (◌≡◌ {A = ℕ} (cond x (cond y 15 (cond z 16 0)) 14) 0 → ⊥) → (14 ≤ cond x (cond y 15 (cond z 16 0)) 14) × (cond x (cond y 15 (cond z 16 0)) 14 ≤ 16)
-    go true true z h = (omega arith, omega arith)
-    go true false true h = (omega arith, omega arith)
-    go true false false h = absurd (h refl)
-    go false y z h = (omega arith, omega arith)
-
 -- step and ready set agree on 14 to 16
 module _ (l : Limits) (t : List ℕ) (s : State) (number : number_of l.work t ≡ 0) (formed : well_formed l.phase (program_of t) s ≡ true) where
   -- a bit of the ready set tells who can step
-  pub ready_bit : (i : ℕ) → bit (ready l t s).set i ≡ can_step (program_of t) s i
+  pub ready_bit : (i : ℕ) → bit (ready_set (ready l t s)) i ≡ can_step (program_of t) s i
   unfolding ready can_step
   ready_bit i = rw (fit l t s number formed) (go (dec_lt i 64))
     where
@@ -128,14 +120,14 @@ module _ (l : Limits) (t : List ℕ) (s : State) (number : number_of l.work t �
       go (no h) = bit_past 64 (can_step (program_of t) s) i (omega arith) ∙ rw (refusal_past (program_of t) s i (omega (arith, f.acts64)))
 
   -- that is, whom the step does not turn down with 14 to 16
-  pub ready_agrees : (i : ℕ) → bit (ready l t s).set i ≡ may_go (step l t s i).answer
+  pub ready_agrees : (i : ℕ) → bit (ready_set (ready l t s)) i ≡ may_go (step l t s i).answer
   unfolding can_step
   ready_agrees i = ready_bit i ∙ go (outcome l t s i)
     where
       go : Outcome l t s i → eqb (refusal (program_of t) s i) 0 ≡ may_go (step l t s i).answer
       go (unfits n q h d) = absurd (h (sym q ∙ fit l t s number formed))
       go (refuses n q h d) =
-          let r = refusal_number (program_of t) s i (λ e. h (sym q ∙ e)) in
-          rw (d, q, ne_eqb n 0 h, ne_eqb n 17 (λ e. omega arith))
+          let r = refusal_range (program_of t) s i (λ e. h (sym q ∙ e)) in
+          rw (d, q, ne_eqb n 0 h, number_back n (omega (arith, h)) (omega arith), ne_eqb n 17 (λ e. omega arith))
       go (overflows q x d) = rw (d, q)
       go (takes a b c x d) = rw (d, c)

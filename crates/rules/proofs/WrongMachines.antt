@@ -5,15 +5,16 @@ use mathlib.Core.List.{List, [], ◌∷◌}
 use mathlib.Core.Bool.{cond}
 use mathlib.Core.Path.{◌≡◌, ap}
 use lib.Dec.{eqb}
+use Rattle.std.specs.Prelude.{Ok, Err}
 use Rattle.program.specs.Bodies.{program_of}
 use Rattle.program.specs.Count.{work_of}
 use Rattle.program.specs.Table.{work_limit, number_of}
 use Rattle.rules.specs.declared.state.Status.TheVariants.{Running}
 use Rattle.rules.specs.declared.state.State.{State}
-use Rattle.rules.specs.declared.answer.Answer.TheVariants.{Accepted, Refused}
+use Rattle.program.specs.declared.refusal.Refusal.TheVariants.{Waits}
 use Rattle.rules.specs.declared.answer.Stepped.{Stepped}
 use Rattle.rules.specs.State.{answer_number}
-use Rattle.rules.specs.Steps.{base, start_state, stepped, step, ready}
+use Rattle.rules.specs.Steps.{base, start_state, stepped, step, ready, ready_set}
 use Rattle.rules.specs.Runs.{run, answers, taken}
 use Rattle.rules.specs.Written.{with_counts, pair}
 use Rattle.rules.proofs.Cases.{opened}
@@ -27,7 +28,7 @@ unfoldable pub hasty : List ℕ → State → ℕ → Stepped
 hasty t s i =
     let through = run base t (0 ∷ 0 ∷ 0 ∷ 1 ∷ 0 ∷ 0 ∷ 1 ∷ 1 ∷ []) in
     let s' = cond (eqb s.steps 0) through s in
-    stepped (Accepted Running) (with_counts (s.steps + 1) s'.activities s'.clocks s'.accumulators s')
+    stepped (Ok Running) (with_counts (s.steps + 1) s'.activities s'.clocks s'.accumulators s')
 
 pub hasty_differs : Alike hasty (step base) → ⊥
 unfolding opened hasty
@@ -45,14 +46,14 @@ invented_differs h =
 
 -- "a step that always waits (16) before looking"
 unfoldable pub waiting : List ℕ → State → ℕ → Stepped
-waiting t s i = stepped (Refused 16) s
+waiting t s i = stepped (Err Waits) s
 
 pub waiting_differs : Alike waiting (step base) → ⊥
 unfolding opened waiting
 waiting_differs h = let e : ◌≡◌ {A = ℕ} 16 0 = ap (λ (r : Stepped). answer_number r.answer) (h pair start_state 0) in omega arith
 
 -- "one ready set for every state"
-pub constant_differs : (set : ℕ) → ((t : List ℕ) (s : State) → set ≡ (ready base t s).set) → ⊥
+pub constant_differs : (set : ℕ) → ((t : List ℕ) (s : State) → set ≡ ready_set (ready base t s)) → ⊥
 unfolding opened
 constant_differs set h =
     let one : set ≡ 1 = h (0x01 ∷ 0x00 ∷ []) start_state in

@@ -7,10 +7,9 @@ use Rattle.rules.specs.Search.{count_below}
 use Rattle.rules.specs.declared.state.Fault.TheVariants.{F1, F2, F3, F4, F5, F6, F7, F8}
 use Rattle.rules.specs.declared.state.Registration.TheVariants.{Free, Live, Quiesced}
 use Rattle.rules.specs.declared.state.Operator.TheVariants.{Sum, Minimum, Maximum}
-use Rattle.rules.specs.State.{fault_number, fault_of, operator_number, operator_of, registration_number, answer_number, ended}
+use Rattle.rules.specs.State.{Answer, fault_number, fault_of, operator_number, operator_of, registration_number, answer_number, ended}
 use Rattle.rules.specs.declared.state.State.{State}
 use Rattle.rules.specs.Steps.{base, start_state, start, advance}
-use Rattle.rules.specs.declared.answer.Answer.{Answer}
 use Rattle.rules.specs.Runs.{run, answers, awaiteds, is_accepted, taken, some_fault, finished}
 
 -- The start's answer; the work and the activities counted; the steps' answers; at the end the steps taken, the activities ended and those spawned.

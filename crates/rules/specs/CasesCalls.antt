@@ -1,5 +1,5 @@
 -- Cases of our own: whole calls with a state made by hand. What is answered, the whole state returned, the ready set and the sheet.
-use Rattle.std.specs.Prelude.{ℕ, ◌+◌, ◌^◌, List, [], ◌∷◌, ◌++◌, Bool, true, false, ◌&&◌, length, replicate, eqb}
+use Rattle.std.specs.Prelude.{ℕ, ◌+◌, ◌^◌, List, [], ◌∷◌, ◌++◌, Bool, true, false, ◌&&◌, length, replicate, eqb, Ok, Err}
 use Rattle.program.specs.Same.{same_bool}
 use Rattle.rules.specs.declared.state.Fault.{Fault}
 use Rattle.rules.specs.declared.state.Fault.TheVariants.{F1, F2, F3, F4, F5, F6, F7}
@@ -9,13 +9,12 @@ use Rattle.rules.specs.declared.state.Registration.TheVariants.{Live, Quiesced}
 use Rattle.rules.specs.declared.state.Operator.TheVariants.{Sum, Minimum}
 use Rattle.rules.specs.declared.state.Activity.{Activity}
 use Rattle.rules.specs.declared.state.State.{State}
-use Rattle.rules.specs.declared.answer.Answer.{Answer}
-use Rattle.rules.specs.declared.answer.Answer.TheVariants.{Accepted, Refused}
+use Rattle.program.specs.Refusal.{refusal_at, told}
 use Rattle.rules.specs.Search.{list_from}
-use Rattle.rules.specs.State.{no_hold, no_activity, no_accumulator}
+use Rattle.rules.specs.State.{Answer, no_hold, no_activity, no_accumulator}
 use Rattle.rules.specs.Clocks.{quiescent}
 use Rattle.rules.specs.Effects.{with_names, stopped}
-use Rattle.rules.specs.Steps.{base, start_state, start, step, ready, registrations, registrations_number}
+use Rattle.rules.specs.Steps.{base, start_state, start, step, ready, ready_set, registrations, registrations_number}
 use Rattle.rules.specs.Same.{same_answer, same_state}
 use Rattle.rules.specs.Written.{frame_at, bottom, hold_on, holding, on_body, activity, written, with_hold, with_status, with_spawner, with_acts, with_counts, change, nest, nested, pair, paired, crowd, crowded}
 use Rattle.rules.specs.CasesValues.{begins_with}
@@ -38,10 +37,10 @@ all_start (c ∷ cs) = let r = all_start cs in starts_so c && r
 unfoldable pub started : List Started
 started =
     -- "Activity 0 starts body 0 with hand 0; the 16 cells start at 0." "a state of zeros from the start"
-    record { table = pair; answer = Accepted Running; state = written 0 0 [] (activity Running 0 0 (bottom 0 0 ∷ []) [] [] ∷ []) [] }
-    ∷ record { table = []; answer = Refused 1; state = written 0 0 [] [] [] }
-    ∷ record { table = 0x01 ∷ 0x02 ∷ 0x08 ∷ 0x00 ∷ []; answer = Refused 5; state = written 0 0 [] [] [] }
-    ∷ record { table = 0x03 ∷ 0x07 ∷ 0xFF ∷ 0x01 ∷ 0x00 ∷ 0x07 ∷ 0xFF ∷ 0x02 ∷ 0x00 ∷ 0x00 ∷ []; answer = Refused 12; state = written 0 0 [] [] [] }
+    record { table = pair; answer = Ok Running; state = written 0 0 [] (activity Running 0 0 (bottom 0 0 ∷ []) [] [] ∷ []) [] }
+    ∷ record { table = []; answer = Err (refusal_at 1); state = written 0 0 [] [] [] }
+    ∷ record { table = 0x01 ∷ 0x02 ∷ 0x08 ∷ 0x00 ∷ []; answer = Err (refusal_at 5); state = written 0 0 [] [] [] }
+    ∷ record { table = 0x03 ∷ 0x07 ∷ 0xFF ∷ 0x01 ∷ 0x00 ∷ 0x07 ∷ 0xFF ∷ 0x02 ∷ 0x00 ∷ 0x00 ∷ []; answer = Err (refusal_at 12); state = written 0 0 [] [] [] }
     ∷ []
 
 -- THE STEP AND THE READY SET
@@ -60,7 +59,7 @@ unfoldable pub answers_so : Handed → Bool
 answers_so c =
     let r = ready base c.table c.state in
     let next = step base c.table c.state c.activity in
-    same_answer next.answer c.answer && (same_state next.state c.after && (eqb r.number c.number && eqb r.set c.set))
+    same_answer next.answer c.answer && (same_state next.state c.after && (eqb (told r) c.number && eqb (ready_set r) c.set))
 
 unfoldable pub all_so : List Handed → Bool
 all_so [] = true
@@ -68,10 +67,10 @@ all_so (c ∷ cs) = let r = all_so cs in answers_so c && r
 
 -- Turned down by the table or the state; by the activity; accepted. "Each answer is its number, with the state as it was handed in".
 abbrev unread : List ℕ → State → ℕ → ℕ → Handed
-unread table s i number = record { table = table; state = s; activity = i; answer = Refused number; after = s; number = number; set = 0 }
+unread table s i number = record { table = table; state = s; activity = i; answer = Err (refusal_at number); after = s; number = number; set = 0 }
 
 abbrev pub refused : List ℕ → State → ℕ → ℕ → ℕ → Handed
-refused table s i number set = record { table = table; state = s; activity = i; answer = Refused number; after = s; number = 0; set = set }
+refused table s i number set = record { table = table; state = s; activity = i; answer = Err (refusal_at number); after = s; number = 0; set = set }
 
 abbrev pub accepted : List ℕ → State → ℕ → ℕ → Answer → State → Handed
 accepted table s i set answer after = record { table = table; state = s; activity = i; answer = answer; after = after; number = 0; set = set }
@@ -126,20 +125,20 @@ hand_made =
     ∷ refused pair (with_counts 3 2 2 0 (change 0 (with_hold 7 (hold_on 65535 1 Quiesced)) (lonely 3 Quiesced))) 0 17 1
     ∷ refused pair (with_counts 8 2 1 0 paired) 1 17 2
     -- The last of each is made, and the last phase is reached; to arrive raises no phase; the last step of the work.
-    ∷ accepted crowd (with_counts 0 63 0 0 (change 63 (λ a. no_activity) crowded)) 0 1 (Accepted Running)
+    ∷ accepted crowd (with_counts 0 63 0 0 (change 63 (λ a. no_activity) crowded)) 0 1 (Ok Running)
     (with_counts 1 64 0 0 (change 63 (λ a. activity Running 0 0 (bottom 0 1 ∷ []) [] []) (change 0 (on_body (bottom 3 0)) crowded)))
-    ∷ accepted (0x01 ∷ 0x02 ∷ 0x06 ∷ 0x00 ∷ []) (with_counts 0 1 15 0 start_state) 0 1 (Accepted Running)
+    ∷ accepted (0x01 ∷ 0x02 ∷ 0x06 ∷ 0x00 ∷ []) (with_counts 0 1 15 0 start_state) 0 1 (Ok Running)
     (written 1 16 [] (activity Running 0 0 (bottom 2 0 ∷ []) (replicate 6 no_hold ++ (hold_on 0 15 Live ∷ [])) [] ∷ []) [])
-    ∷ accepted (0x01 ∷ 0x08 ∷ 0x06 ∷ 0x01 ∷ 0x00 ∷ []) (with_counts 0 1 0 15 start_state) 0 1 (Accepted Running)
+    ∷ accepted (0x01 ∷ 0x08 ∷ 0x06 ∷ 0x01 ∷ 0x00 ∷ []) (with_counts 0 1 0 15 start_state) 0 1 (Ok Running)
     (written 1 0 [] (activity Running 0 0 (bottom 3 0 ∷ []) [] (replicate 6 0 ++ (16 ∷ [])) ∷ []) (replicate 15 no_accumulator ++ (holding 4294967295 Minimum 0 ∷ [])))
-    ∷ accepted pair (lonely 65534 Quiesced) 0 1 (Accepted Running)
+    ∷ accepted pair (lonely 65534 Quiesced) 0 1 (Ok Running)
     (with_counts 4 2 1 0 (change 0 (λ a. with_status Running (on_body (bottom 6 0) a)) (lonely 65535 Live)))
-    ∷ accepted pair (change 0 (with_status Running) (lonely 65535 Live)) 0 1 (Accepted AtBarrier) (with_counts 4 2 1 0 (lonely 65535 Quiesced))
-    ∷ accepted pair (with_counts 7 2 1 0 (change 0 (λ a. with_status Running (on_body (bottom 6 0) a)) (lonely 65535 Live))) 0 1 (Accepted Ended)
+    ∷ accepted pair (change 0 (with_status Running) (lonely 65535 Live)) 0 1 (Ok AtBarrier) (with_counts 4 2 1 0 (lonely 65535 Quiesced))
+    ∷ accepted pair (with_counts 7 2 1 0 (change 0 (λ a. with_status Running (on_body (bottom 6 0) a)) (lonely 65535 Live))) 0 1 (Ok Ended)
     (with_counts 8 2 1 0 (change 0 (λ a. stopped a Ended) (change 1 (λ a. stopped a Ended) paired)))
     -- Of a faulting step only "more steps than the work": an ASYNC that faults needs no 65th activity.
     ∷ refused (0x01 ∷ 0x03 ∷ 0x00 ∷ 0x00 ∷ []) (with_counts 2 1 0 0 start_state) 0 17 1
-    ∷ accepted (0x02 ∷ 0x05 ∷ 0x01 ∷ 0x01 ∷ 0x00 ∷ 0x00 ∷ []) crowded 0 1 (Accepted (Faulted F1))
+    ∷ accepted (0x02 ∷ 0x05 ∷ 0x01 ∷ 0x01 ∷ 0x00 ∷ 0x00 ∷ []) crowded 0 1 (Ok (Faulted F1))
     (with_counts 1 64 0 0 (change 0 (λ a. stopped a (Faulted F1)) crowded))
     -- A clock that the child holds under another name is the same clock.
     ∷ refused pair (change 1 (λ a. with_hold 4 (hold_on 0 0 Live) (with_hold 0 no_hold a)) paired) 0 16 2
@@ -150,7 +149,7 @@ hand_made =
     -- READ, and the END of a FINISH body, wait for the last in a line of sixty-three; it is not inside where the first was spawned before the finish.
     ∷ refused reader (lined (activity Running 0 0 (bottom 0 0 ∷ []) [] (1 ∷ [])) 1) 0 16 (2 ^ 63)
     ∷ refused finish (lined (finishing 1) 0) 0 16 (2 ^ 63)
-    ∷ accepted finish (lined (finishing 2) 0) 0 (2 ^ 63 + 1) (Accepted Running) (with_counts 1 64 0 0 (change 0 (on_body (bottom 2 0)) (lined (finishing 2) 0)))
+    ∷ accepted finish (lined (finishing 2) 0) 0 (2 ^ 63 + 1) (Ok Running) (with_counts 1 64 0 0 (change 0 (on_body (bottom 2 0)) (lined (finishing 2) 0)))
     ∷ []
 
 -- FAULTS
@@ -163,7 +162,7 @@ pub record Breach : Type 0 where
 
 unfoldable pub all_fault : List Breach → Bool
 all_fault [] = true
-all_fault (c ∷ cs) = let r = all_fault cs in same_answer (step base c.table c.state 0).answer (Accepted (Faulted c.fault)) && r
+all_fault (c ∷ cs) = let r = all_fault cs in same_answer (step base c.table c.state 0).answer (Ok (Faulted c.fault)) && r
 
 abbrev breach : Fault → List ℕ → State → Breach
 breach f table s = record { table = table; state = s; fault = f }

@@ -1,12 +1,12 @@
 -- Cases of our own: a finish passes a fault on. Runs with the whole state after them, and states made by hand.
-use Rattle.std.specs.Prelude.{ℕ, List, [], ◌∷◌, ◌++◌, replicate}
+use Rattle.std.specs.Prelude.{ℕ, List, [], ◌∷◌, ◌++◌, replicate, Ok, Err}
 use Rattle.rules.specs.declared.state.Fault.TheVariants.{F1, F2, F7, F8}
 use Rattle.rules.specs.declared.state.Status.{Status}
 use Rattle.rules.specs.declared.state.Status.TheVariants.{Running, Ended, Faulted}
 use Rattle.rules.specs.declared.state.Operator.TheVariants.{Sum}
 use Rattle.rules.specs.declared.state.Activity.{Activity}
 use Rattle.rules.specs.declared.state.State.{State}
-use Rattle.rules.specs.declared.answer.Answer.TheVariants.{Accepted, Refused}
+use Rattle.program.specs.Refusal.{refusal_at}
 use Rattle.rules.specs.State.{no_activity}
 use Rattle.rules.specs.Effects.{stopped}
 use Rattle.rules.specs.Written.{bottom, holding, activity, written, with_spawner, with_counts, change}
@@ -20,7 +20,7 @@ passed_on =
     record {
       table = 0x03 ∷ 0x06 ∷ 0x01 ∷ 0x00 ∷ 0x05 ∷ 0x02 ∷ 0x00 ∷ 0x00 ∷ 0x03 ∷ 0x00 ∷ 0x00 ∷ [];
       order = 0 ∷ 0 ∷ 0 ∷ 1 ∷ 0 ∷ 0 ∷ [];
-      answers = running ∷ running ∷ waits ∷ faulted F1 ∷ faulted F8 ∷ Refused 15 ∷ [];
+      answers = running ∷ running ∷ waits ∷ faulted F1 ∷ faulted F8 ∷ Err (refusal_at 15) ∷ [];
       after = written 4 0 [] (activity (Faulted F8) 0 0 [] [] [] ∷ activity (Faulted F1) 0 0 [] [] [] ∷ []) [];
     }
     -- A grandchild, whose spawner ended well.
@@ -41,7 +41,7 @@ passed_on =
     ∷ record {
       table = 0x05 ∷ 0x06 ∷ 0x01 ∷ 0x00 ∷ 0x05 ∷ 0x02 ∷ 0x00 ∷ 0x00 ∷ 0x06 ∷ 0x03 ∷ 0x00 ∷ 0x05 ∷ 0x04 ∷ 0x00 ∷ 0x00 ∷ 0x03 ∷ 0x00 ∷ 0x00 ∷ [];
       order = 0 ∷ 0 ∷ 1 ∷ 1 ∷ 1 ∷ 2 ∷ 1 ∷ 0 ∷ 0 ∷ [];
-      answers = running ∷ running ∷ running ∷ running ∷ waits ∷ faulted F1 ∷ faulted F8 ∷ faulted F8 ∷ Refused 15 ∷ [];
+      answers = running ∷ running ∷ running ∷ running ∷ waits ∷ faulted F1 ∷ faulted F8 ∷ faulted F8 ∷ Err (refusal_at 15) ∷ [];
       after = written 7 0 [] (activity (Faulted F8) 0 0 [] [] [] ∷ activity (Faulted F8) 0 0 [] [] [] ∷ activity (Faulted F1) 1 0 [] [] [] ∷ []) [];
     }
     -- 16 while another inside runs.
@@ -104,7 +104,7 @@ passed_on =
     ∷ record {
       table = 0x04 ∷ 0x06 ∷ 0x01 ∷ 0x00 ∷ 0x06 ∷ 0x02 ∷ 0x00 ∷ 0x05 ∷ 0x03 ∷ 0x00 ∷ 0x00 ∷ 0x03 ∷ 0x00 ∷ 0x00 ∷ [];
       order = 0 ∷ 0 ∷ 0 ∷ 1 ∷ 0 ∷ 0 ∷ [];
-      answers = running ∷ running ∷ running ∷ faulted F1 ∷ faulted F8 ∷ Refused 15 ∷ [];
+      answers = running ∷ running ∷ running ∷ faulted F1 ∷ faulted F8 ∷ Err (refusal_at 15) ∷ [];
       after = written 5 0 [] (activity (Faulted F8) 0 0 [] [] [] ∷ activity (Faulted F1) 0 0 [] [] [] ∷ []) [];
     }
     -- A finish in a REPEAT body: REPEAT 2 1; body 1 FINISH 2; body 2 ASYNC 3 0; body 3 RESUME 0. The second run never comes.
@@ -157,5 +157,5 @@ handed_on =
     ∷ accepted finish (closing 2 (over (Faulted F7)) (over Ended)) 0 1 (faulted F8) (written 3 0 [] (over (Faulted F8) ∷ over (Faulted F7) ∷ over Ended ∷ []) [])
     -- The last of sixty-three alone; it is not inside where the first was spawned before the finish.
     ∷ accepted finish (faulted_line (finishing 1)) 0 1 (faulted F8) (with_counts 1 64 0 0 (change 0 (λ a. over (Faulted F8)) (faulted_line (finishing 1))))
-    ∷ accepted finish (faulted_line (finishing 2)) 0 1 (Accepted Running) (with_counts 1 64 0 0 (change 0 (λ a. activity Running 0 0 (bottom 2 0 ∷ []) [] []) (faulted_line (finishing 2))))
+    ∷ accepted finish (faulted_line (finishing 2)) 0 1 (Ok Running) (with_counts 1 64 0 0 (change 0 (λ a. activity Running 0 0 (bottom 2 0 ∷ []) [] []) (faulted_line (finishing 2))))
     ∷ []

@@ -1,5 +1,5 @@
 -- Cases of our own: runs with the answer of each step, its status included, and the whole state after them, written out.
-use Rattle.std.specs.Prelude.{ℕ, ◌+◌, List, [], ◌∷◌, ◌++◌, Bool, true, false, ◌&&◌, replicate, eqb}
+use Rattle.std.specs.Prelude.{ℕ, ◌+◌, List, [], ◌∷◌, ◌++◌, Bool, true, false, ◌&&◌, replicate, eqb, Ok, Err}
 use Rattle.program.specs.Bodies.{Program, program_of}
 use Rattle.program.specs.Table.{work_limit, number_of}
 use Rattle.rules.specs.declared.state.Fault.{Fault}
@@ -9,9 +9,8 @@ use Rattle.rules.specs.declared.state.Registration.TheVariants.{Live, Quiesced}
 use Rattle.rules.specs.declared.state.Operator.TheVariants.{Sum, Minimum, Maximum}
 use Rattle.rules.specs.declared.state.Hold.{Hold}
 use Rattle.rules.specs.declared.state.State.{State}
-use Rattle.rules.specs.declared.answer.Answer.{Answer}
-use Rattle.rules.specs.declared.answer.Answer.TheVariants.{Accepted, Refused}
-use Rattle.rules.specs.State.{no_hold}
+use Rattle.program.specs.Refusal.{refusal_at}
+use Rattle.rules.specs.State.{Answer, no_hold}
 use Rattle.rules.specs.Steps.{base, start_state, advance}
 use Rattle.rules.specs.Same.{same_answer, same_state}
 use Rattle.rules.specs.Written.{frame_at, bottom, hold_on, holding, activity, written}
@@ -39,19 +38,19 @@ all_go (c ∷ cs) = let r = all_go cs in goes_so c && r
 
 -- The answers.
 abbrev pub running : Answer
-running = Accepted Running
+running = Ok Running
 
 abbrev pub at_barrier : Answer
-at_barrier = Accepted AtBarrier
+at_barrier = Ok AtBarrier
 
 abbrev pub ended : Answer
-ended = Accepted Ended
+ended = Ok Ended
 
 abbrev pub faulted : Fault → Answer
-faulted f = Accepted (Faulted f)
+faulted f = Ok (Faulted f)
 
 abbrev pub waits : Answer
-waits = Refused 16
+waits = Err (refusal_at 16)
 
 abbrev free : ℕ → List Hold
 free n = replicate n no_hold
@@ -358,7 +357,7 @@ affected =
     ∷ record {
       table = meetings;
       order = second_meeting ++ (0 ∷ 1 ∷ 1 ∷ []);
-      answers = second_answers ++ (ended ∷ ended ∷ Refused 15 ∷ []);
+      answers = second_answers ++ (ended ∷ ended ∷ Err (refusal_at 15) ∷ []);
       after = written 12 1 [] (activity Ended 0 0 [] [] [] ∷ activity Ended 0 0 [] [] [] ∷ []) [];
     }
     -- "the clocks of m under the same names, at the spawner's phase, live": CLOCK 1, NEXT, CLOCK 4, CLOCK 6, RESUME 4, ACC 3 1, PUT 8, ASYNC of names 1 and 6.

@@ -2,20 +2,20 @@
 -- exactly its counted work, or less with a fault; a quiescent phase stays so. One claim about the table and the whole list of calls, of any length." Of the work document 02
 -- says, with CHOOSE: "A run without faults now takes at most its work, and a finished one exactly its work where each CHOOSE step taken in it ran its body."
 -- Beside each field stands the sentence of the brief or of a document that it states; what none of them says stands without quotation marks.
-use Rattle.std.specs.Prelude.{ℕ, ◌+◌, ◌≤◌, ◌<◌, List, [], ◌∷◌, ◌++◌, Bool, true, false, ◌&&◌, ◌≡◌, leb}
+use Rattle.std.specs.Prelude.{ℕ, ◌+◌, ◌≤◌, ◌<◌, List, [], ◌∷◌, ◌++◌, Bool, true, false, ◌&&◌, ◌≡◌, leb, Ok, Err}
 use Rattle.program.specs.Bodies.{program_of}
 use Rattle.program.specs.Count.{work_of}
-use Rattle.rules.specs.declared.answer.Answer.{Answer}
-use Rattle.rules.specs.declared.answer.Answer.TheVariants.{Accepted, Refused}
+use Rattle.program.specs.Refusal.{refusal_number, told}
+use Rattle.rules.specs.State.{Answer}
 use Rattle.rules.specs.Clocks.{quiescent}
 use Rattle.rules.specs.Faults.{bit}
-use Rattle.rules.specs.Steps.{Limits, step, ready}
+use Rattle.rules.specs.Steps.{Limits, step, ready, ready_set}
 use Rattle.rules.specs.Runs.{run, answers, is_accepted, taken, some_fault, finished, spared, all_ran}
 
 -- "No call of a run is answered with 1 to 13 or 17." What is left: a step, a fault, 14, 15 or 16.
 abbrev pub is_of_run : Answer → Bool
-is_of_run (Accepted status) = true
-is_of_run (Refused n) = leb 14 n && leb n 16
+is_of_run (Ok status) = true
+is_of_run (Err e) = leb 14 (refusal_number e) && leb (refusal_number e) 16
 
 unfoldable pub all_of_run : List Answer → Bool
 all_of_run [] = true
@@ -28,13 +28,13 @@ pub record Demand3 (l : Limits) (t order : List ℕ) : Type 0 where
   -- "What a run has taken is the number of its accepted steps, and the state's steps taken equals it."
   pub counted : (run l t order).steps ≡ taken (answers l t order)
   -- The ready set too is not turned down: "The step tries 1 to 17, the ready set and sheet 1 to 13, the start 1 to 12."
-  pub fit : (ready l t (run l t order)).number ≡ 0
+  pub fit : told (ready l t (run l t order)) ≡ 0
   -- "Nobody who picks the order can bring an accepted table to a standstill": where no activity can step, the run is finished.
-  pub alive : (ready l t (run l t order)).set ≡ 0 → finished (run l t order) ≡ true
+  pub alive : ready_set (ready l t (run l t order)) ≡ 0 → finished (run l t order) ≡ true
   -- "A run is finished when every spawned activity has ended." Then no activity can step.
-  pub over : finished (run l t order) ≡ true → (ready l t (run l t order)).set ≡ 0
+  pub over : finished (run l t order) ≡ true → ready_set (ready l t (run l t order)) ≡ 0
   -- "The ready set is 64 bits, bit i for activity i, set where 14 to 16 don't apply." There a step is accepted: 17 does not come.
-  pub steps : (i : ℕ) → bit (ready l t (run l t order)).set i ≡ true → is_accepted (step l t (run l t order) i).answer ≡ true
+  pub steps : (i : ℕ) → bit (ready_set (ready l t (run l t order))) i ≡ true → is_accepted (step l t (run l t order) i).answer ≡ true
   -- "A run without faults now takes at most its work": any run does.
   pub bounded : taken (answers l t order) ≤ work_of (program_of t)
   -- "and a finished one exactly its work where each CHOOSE step taken in it ran its body"

@@ -1,5 +1,5 @@
 -- Runs: "A run is an accepted table with a list of activity numbers, whatever they are: the start is called once, then one step for each number."
-use Rattle.std.specs.Prelude.{ℕ, ◌+◌, List, [], ◌∷◌, Bool, true, false, cond, ◌||◌, ◌&&◌, not, eqb}
+use Rattle.std.specs.Prelude.{ℕ, ◌+◌, List, [], ◌∷◌, Bool, true, false, cond, ◌||◌, ◌&&◌, not, eqb, Ok, Err}
 use Rattle.program.specs.declared.command.Command.{Command}
 use Rattle.program.specs.Command.{opcode, named}
 use Rattle.program.specs.Bodies.{Program, program_of}
@@ -7,10 +7,8 @@ use Rattle.program.specs.Count.{tally, own_work}
 use Rattle.rules.specs.declared.state.Activity.{Activity}
 use Rattle.rules.specs.declared.state.Status.TheVariants.{Running, AtBarrier, Ended, Faulted}
 use Rattle.rules.specs.declared.state.State.{State}
-use Rattle.rules.specs.declared.answer.Answer.{Answer}
-use Rattle.rules.specs.declared.answer.Answer.TheVariants.{Accepted, Refused}
 use Rattle.rules.specs.Search.{all_below}
-use Rattle.rules.specs.State.{act, ended}
+use Rattle.rules.specs.State.{Answer, act, ended}
 use Rattle.rules.specs.Steps.{Limits, at, start, step, awaited_count}
 
 -- "each later one the state that the step before returned, turned down or not"
@@ -39,15 +37,15 @@ awaiteds l t order = awaited_from l t (start l t).state order
 
 -- "A step is accepted if its answer is a step or a fault."
 abbrev pub is_accepted : Answer → Bool
-is_accepted (Accepted status) = true
-is_accepted (Refused n) = false
+is_accepted (Ok status) = true
+is_accepted (Err e) = false
 
 abbrev pub is_fault : Answer → Bool
-is_fault (Accepted Running) = false
-is_fault (Accepted AtBarrier) = false
-is_fault (Accepted Ended) = false
-is_fault (Accepted (Faulted f)) = true
-is_fault (Refused n) = false
+is_fault (Ok Running) = false
+is_fault (Ok AtBarrier) = false
+is_fault (Ok Ended) = false
+is_fault (Ok (Faulted f)) = true
+is_fault (Err e) = false
 
 -- "What a run has taken is the number of its accepted steps"
 unfoldable pub taken : List Answer → ℕ

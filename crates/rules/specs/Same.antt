@@ -1,5 +1,6 @@
 -- Whether two answers, or two states, are the same in every entry: what cases are compared with.
-use Rattle.std.specs.Prelude.{ℕ, ◌+◌, List, [], ◌∷◌, ◌++◌, map, Bool, true, false, ◌&&◌, eqb}
+use Rattle.std.specs.Prelude.{ℕ, ◌+◌, List, [], ◌∷◌, ◌++◌, map, Bool, true, false, ◌&&◌, eqb, Ok, Err}
+use Rattle.program.specs.Refusal.{refusal_number}
 use Rattle.program.specs.Same.{same_lists}
 use Rattle.rules.specs.declared.state.Status.{Status}
 use Rattle.rules.specs.declared.state.Status.TheVariants.{Running, AtBarrier, Ended, Faulted}
@@ -8,9 +9,7 @@ use Rattle.rules.specs.declared.state.Hold.{Hold}
 use Rattle.rules.specs.declared.state.Activity.{Activity}
 use Rattle.rules.specs.declared.state.Accumulator.{Accumulator}
 use Rattle.rules.specs.declared.state.State.{State}
-use Rattle.rules.specs.declared.answer.Answer.{Answer}
-use Rattle.rules.specs.declared.answer.Answer.TheVariants.{Accepted, Refused}
-use Rattle.rules.specs.State.{fault_number, registration_number, operator_number}
+use Rattle.rules.specs.State.{Answer, fault_number, registration_number, operator_number}
 
 -- A number of its own for each status and each answer.
 abbrev status_code : Status → ℕ
@@ -20,8 +19,8 @@ status_code Ended = 2
 status_code (Faulted f) = 2 + fault_number f
 
 abbrev answer_code : Answer → ℕ
-answer_code (Accepted status) = status_code status
-answer_code (Refused n) = 100 + n
+answer_code (Ok status) = status_code status
+answer_code (Err e) = 100 + refusal_number e
 
 abbrev pub same_answer : Answer → Answer → Bool
 same_answer a b = eqb (answer_code a) (answer_code b)

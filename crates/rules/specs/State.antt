@@ -1,5 +1,7 @@
 -- The parts of a state, and the paper's number for each value of an enum.
-use Rattle.std.specs.Prelude.{ℕ, ◌+◌, ◌-◌, List, [], ◌∷◌, Bool, true, false, get_or, replicate}
+use Rattle.std.specs.Prelude.{ℕ, ◌+◌, ◌-◌, List, [], ◌∷◌, Bool, true, false, get_or, replicate, Result, Ok, Err}
+use Rattle.program.specs.declared.refusal.Refusal.{Refusal}
+use Rattle.program.specs.Refusal.{refusal_number}
 use Rattle.rules.specs.declared.state.Fault.{Fault}
 use Rattle.rules.specs.declared.state.Fault.TheVariants.{F1, F2, F3, F4, F5, F6, F7, F8}
 use Rattle.rules.specs.declared.state.Status.{Status}
@@ -13,8 +15,6 @@ use Rattle.rules.specs.declared.state.Hold.{Hold}
 use Rattle.rules.specs.declared.state.Activity.{Activity}
 use Rattle.rules.specs.declared.state.Accumulator.{Accumulator}
 use Rattle.rules.specs.declared.state.State.{State}
-use Rattle.rules.specs.declared.answer.Answer.{Answer}
-use Rattle.rules.specs.declared.answer.Answer.TheVariants.{Accepted, Refused}
 
 -- NUMBERS OF THE ENUMS
 
@@ -55,9 +55,13 @@ status_answer AtBarrier = 0
 status_answer Ended = 0
 status_answer (Faulted f) = 100 + fault_number f
 
+-- A step that was taken, with the activity's standing after it, or why the call was turned down.
+abbrev pub Answer : Type 0
+Answer = Result Status Refusal
+
 abbrev pub answer_number : Answer → ℕ
-answer_number (Accepted status) = status_answer status
-answer_number (Refused n) = n
+answer_number (Ok status) = status_answer status
+answer_number (Err e) = refusal_number e
 
 -- UNUSED ENTRIES, ALL 0
 

@@ -1,5 +1,8 @@
 -- The calls: start, step, ready set, how many an activity waits for, and standing sheet, with the numbers for which each is turned down, in checking order.
-use Rattle.std.specs.Prelude.{ℕ, List, [], ◌∷◌, Bool, true, false, cond, ◌||◌, ◌&&◌, not, set, replicate, ltb, leb, eqb}
+use Rattle.std.specs.Prelude.{ℕ, List, [], ◌∷◌, Bool, true, false, cond, ◌||◌, ◌&&◌, not, set, replicate, ltb, leb, eqb, Result, Ok, Err}
+use Rattle.program.specs.declared.refusal.Refusal.{Refusal}
+use Rattle.program.specs.declared.refusal.Refusal.TheVariants.{Spent}
+use Rattle.program.specs.Refusal.{refusal_at, answered}
 use Rattle.program.specs.Bodies.{Located, Program, program_of}
 use Rattle.program.specs.Count.{work_of}
 use Rattle.program.specs.Table.{work_limit, number_of}
@@ -7,12 +10,9 @@ use Rattle.rules.specs.declared.state.Fault.TheVariants.{F8}
 use Rattle.rules.specs.declared.state.Status.TheVariants.{Running, Faulted}
 use Rattle.rules.specs.declared.state.Hold.{Hold}
 use Rattle.rules.specs.declared.state.State.{State}
-use Rattle.rules.specs.declared.answer.Answer.{Answer}
-use Rattle.rules.specs.declared.answer.Answer.TheVariants.{Accepted, Refused}
 use Rattle.rules.specs.declared.answer.Stepped.{Stepped}
-use Rattle.rules.specs.declared.answer.Ready.{Ready}
 use Rattle.rules.specs.Search.{some_below, bits_below, list_from}
-use Rattle.rules.specs.State.{fault_number, fault_of, registration_number, no_activity, zero_state, act, top, hold, ended, no_frames}
+use Rattle.rules.specs.State.{Answer, fault_number, fault_of, registration_number, no_activity, zero_state, act, top, hold, ended, no_frames}
 use Rattle.rules.specs.Clocks.{is_held}
 use Rattle.rules.specs.Tree.{here}
 use Rattle.rules.specs.Faults.{fault_for, spoilt}
@@ -93,8 +93,8 @@ unfoldable pub advance : Limits → Program → State → ℕ → Stepped
 advance l p s i =
     let r = refusal p s i in
     let e = effect p s i in
-    let done = stepped (Accepted e.self.status) (applied s i e) in
-    cond (eqb r 0) (cond (exceeds l p s e) (stepped (Refused 17) s) done) (stepped (Refused r) s)
+    let done = stepped (Ok e.self.status) (applied s i e) in
+    cond (eqb r 0) (cond (exceeds l p s e) (stepped (Err Spent) s) done) (stepped (Err (refusal_at r)) s)
 
 -- THE CALLS
 
@@ -117,7 +117,7 @@ unfit l number p s = cond (eqb number 0) (cond (well_formed l.phase p s) 0 13) n
 
 -- "the start 1 to 12"; "a state of zeros from the start"
 unfoldable pub start_with : ℕ → Stepped
-start_with number = cond (eqb number 0) (stepped (Accepted Running) start_state) (stepped (Refused number) zero_state)
+start_with number = cond (eqb number 0) (stepped (Ok Running) start_state) (stepped (Err (refusal_at number)) zero_state)
 
 unfoldable pub start : Limits → List ℕ → Stepped
 start l t = start_with (number_of l.work t)
@@ -127,7 +127,7 @@ unfoldable pub step_with : Limits → ℕ → Program → State → ℕ → Step
 step_with l number p s i =
     let n = unfit l number p s in
     let go = advance l p s i in
-    cond (eqb n 0) go (stepped (Refused n) s)
+    cond (eqb n 0) go (stepped (Err (refusal_at n)) s)
 
 unfoldable pub step : Limits → List ℕ → State → ℕ → Stepped
 step l t s i = step_with l (number_of l.work t) (program_of t) s i
@@ -136,11 +136,20 @@ step l t s i = step_with l (number_of l.work t) (program_of t) s i
 unfoldable pub can_step : Program → State → ℕ → Bool
 can_step p s i = eqb (refusal p s i) 0
 
+-- The ready set, or why the call was turned down: 1 to 13.
+abbrev pub Ready : Type 0
+Ready = Result ℕ Refusal
+
 unfoldable pub ready : Limits → List ℕ → State → Ready
 ready l t s =
     let n = unfit l (number_of l.work t) (program_of t) s in
     let members = bits_below 64 (can_step (program_of t) s) in
-    record { set = cond (eqb n 0) members 0; number = n }
+    answered n members
+
+-- The set of that answer: a call that is turned down has "an empty ready set".
+abbrev pub ready_set : Ready → ℕ
+ready_set (Ok set) = set
+ready_set (Err e) = 0
 
 -- How many activities activity i waits for: the call tries 1 to 15, "an activity that doesn't wait" and a call that is turned down having 0.
 unfoldable pub awaited_number : Limits → List ℕ → State → ℕ → ℕ

@@ -1,20 +1,21 @@
-// The state, by value: wide fields first, so that nothing is padded where it can be helped.
+// The state, by value: wide fields first, so that nothing is padded where it can be helped. Memory is fixed, so an array has its count beside it. An unused part
+// is all 0 and no Option: the definitions, the theorems on them and the state's bytes read these numbers.
 
 // A fault: a breach, by its number in document 01, or F8, document 02's, of an owner to whom a finish passes a fault on.
-#[derive(Clone, Copy)]
+#[derive(Clone, Copy, Debug, PartialEq, Eq)]
 pub enum Fault {
-    F1,
-    F2,
-    F3,
-    F4,
-    F5,
-    F6,
-    F7,
-    F8,
+    F1 = 1,
+    F2 = 2,
+    F3 = 3,
+    F4 = 4,
+    F5 = 5,
+    F6 = 6,
+    F7 = 7,
+    F8 = 8,
 }
 
 // An activity's standing (document 01): running, at a meeting, ended, or faulted.
-#[derive(Clone, Copy)]
+#[derive(Clone, Copy, Debug, PartialEq, Eq)]
 pub enum Status {
     Running,
     AtBarrier,
@@ -23,7 +24,7 @@ pub enum Status {
 }
 
 // A body on an activity's stack.
-#[derive(Clone, Copy)]
+#[derive(Clone, Copy, Debug, PartialEq, Eq)]
 pub struct Frame {
     // The place of its command: bytes from the body's first command. Below the top it stays on the FINISH, REPEAT or CHOOSE that runs the body above.
     pub offset: u16,
@@ -35,22 +36,22 @@ pub struct Frame {
 }
 
 // Whether a clock is held under a name, and how.
-#[derive(Clone, Copy)]
+#[derive(Clone, Copy, Debug, PartialEq, Eq)]
 pub enum Registration {
-    Free,
-    Live,
-    Quiesced,
+    Free = 0,
+    Live = 1,
+    Quiesced = 2,
 }
 
 // A clock name of an activity.
-#[derive(Clone, Copy)]
+#[derive(Clone, Copy, Debug, PartialEq, Eq)]
 pub struct Hold {
     pub phase: u16,
     pub clock: u8,
     pub registration: Registration,
 }
 
-#[derive(Clone, Copy)]
+#[derive(Clone, Copy, Debug, PartialEq, Eq)]
 pub struct Activity {
     // Document 01: the hand.
     pub register: u32,
@@ -65,21 +66,21 @@ pub struct Activity {
 }
 
 // How an accumulator reduces.
-#[derive(Clone, Copy)]
+#[derive(Clone, Copy, Debug, PartialEq, Eq)]
 pub enum Operator {
-    Sum,
-    Minimum,
-    Maximum,
+    Sum = 0,
+    Minimum = 1,
+    Maximum = 2,
 }
 
-#[derive(Clone, Copy)]
+#[derive(Clone, Copy, Debug, PartialEq, Eq)]
 pub struct Accumulator {
     pub value: u32,
     pub owner: u8,
     pub operator: Operator,
 }
 
-#[derive(Clone, Copy)]
+#[derive(Clone, Copy, Debug, PartialEq, Eq)]
 pub struct State {
     pub cells: [u32; 16],
     pub acts: [Activity; 64],

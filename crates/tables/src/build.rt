@@ -1,119 +1,75 @@
 // Tables made of commands.
+ghost use Rattle.std.specs.Prelude.{◌≤◌};
 
-// A table under construction: its bytes so far.
+// A table under construction: its bytes so far, in fixed memory. There is room for one more than a table may have.
 #[derive(Clone, Copy)]
 pub struct Built {
-    pub bytes: [u8; 2049],
-    pub len: usize,
+    bytes: [u8; 2049],
+    len: usize,
+    ghost fits: { len ≤ 2049 },
 }
 
-// A command of one to four bytes, or two commands that come together.
-#[derive(Clone, Copy)]
-pub struct Piece {
-    pub size: usize,
-    pub first: u8,
-    pub second: u8,
-    pub third: u8,
-    pub fourth: u8,
-}
-
-// No byte yet.
-pub fn empty() -> Built {
-    Built {
-        bytes: [0u8; 2049],
-        len: 0,
+impl Built {
+    // Byte 0 of a table of so many bodies.
+    pub fn of(bodies: u8) -> Built {
+        let mut built = Built {
+            bytes: [0u8; 2049],
+            len: 0,
+        };
+        built.put(&[bodies]);
+        built
     }
-}
 
-// Pieces of one to four bytes.
-pub fn one(first: u8) -> Piece {
-    Piece {
-        size: 1,
-        first,
-        second: 0,
-        third: 0,
-        fourth: 0,
+    // Bytes more, while there is room.
+    pub fn put(&mut self, piece: &[u8]) {
+        for x in piece {
+            if self.len < 2049 {
+                self.bytes[self.len] = *x;
+                self.len += 1;
+            }
+        }
     }
-}
 
-pub fn two(first: u8, second: u8) -> Piece {
-    Piece {
-        size: 2,
-        second,
-        ..one(first)
+    // A body more: so many copies of a command, or of two that come together, and END.
+    pub fn body(&mut self, piece: &[u8], count: usize) {
+        for _ in 0..count {
+            self.put(piece);
+        }
+        self.put(&[0]);
     }
-}
 
-pub fn three(first: u8, second: u8, third: u8) -> Piece {
-    Piece {
-        size: 3,
-        third,
-        ..two(first, second)
+    pub fn bytes(&self) -> &[u8] {
+        &self.bytes[..self.len]
     }
 }
 
-pub fn four(first: u8, second: u8, third: u8, fourth: u8) -> Piece {
-    Piece {
-        size: 4,
-        fourth,
-        ..three(first, second, third)
-    }
+// A table of one body of so many copies of a piece.
+pub fn one_body(piece: &[u8], count: usize) -> Built {
+    let mut built = Built::of(1);
+    built.body(piece, count);
+    built
 }
 
-// A byte more, while there is room.
-pub fn push(built: Built, x: u8) -> Built {
-    let at = built.len;
-    let mut next = built;
-    if at < 2049 {
-        next.bytes[at] = x;
-        next.len = at + 1;
+// Sixteen bodies, each of so many copies of a command that names the next by its last operand; the last has FETCH 0 instead.
+pub fn nested(command: &[u8], count: usize) -> Built {
+    let mut built = Built::of(16);
+    for b in 1..16 {
+        for _ in 0..count {
+            built.put(command);
+            built.put(&[b]);
+        }
+        built.put(&[0]);
     }
-    next
+    built.body(&[0x0D, 0], count);
+    built
 }
 
-// A piece more.
-pub fn put(built: Built, piece: Piece) -> Built {
-    let size = piece.size;
-    let mut next = push(built, piece.first);
-    if 1 < size {
-        next = push(next, piece.second);
-    }
-    if 2 < size {
-        next = push(next, piece.third);
-    }
-    if 3 < size {
-        next = push(next, piece.fourth);
-    }
-    next
-}
-
-// A body more: so many copies of a piece, and END.
-pub fn body(built: Built, piece: Piece, count: usize) -> Built {
-    let mut next = built;
-    let mut i: usize = 0;
-    while i < count {
-        next = put(next, piece);
-        i += 1;
-    }
-    push(next, 0)
-}
-
-// A piece that names a body with its last operand.
-fn naming(piece: Piece, b: u8) -> Piece {
-    if piece.size == 2 {
-        two(piece.first, b)
-    } else {
-        three(piece.first, piece.second, b)
-    }
-}
-
-// Sixteen bodies, each of so many copies of a piece that names the next; the last has FETCH 0 instead.
-pub fn nested(piece: Piece, count: usize) -> Built {
-    let mut next = push(empty(), 16);
-    let mut b: u8 = 1;
-    while b < 16 {
-        next = body(next, naming(piece, b), count);
-        b += 1;
-    }
-    body(next, two(0x0D, 0), count)
+// REPEAT 255 of REPEAT 254 of a bare END, with so many FETCH more.
+pub fn repeats(more: usize) -> Built {
+    let mut built = Built::of(3);
+    built.put(&[7, 255, 1]);
+    built.body(&[0x0D, 0], more);
+    built.body(&[7, 254, 2], 1);
+    built.put(&[0]);
+    built
 }

@@ -3,32 +3,36 @@ use Prim.Native.Nat.{ℕ, ◌≤◌, ◌<◌}
 use native.Mathlib.Omega.{arith}
 use mathlib.Core.Path.{◌≡◌, refl, sym, ap, ◌∙◌, subst}
 use mathlib.Core.List.{List}
-use mathlib.Core.Bool.{false}
-use borrow.Author.Tests.{lt-ltb, le-ltb, eqb-true}
+use mathlib.Core.Bool.{Bool, true, false}
+use lib.Dec.{eqb}
+use borrow.Author.Tests.{lt-ltb, le-ltb, eqb-true, eqb-false}
+use Rattle.std.specs.Prelude.{Option, Result, Err}
 use Rattle.program.specs.Bodies.{Program, program_of}
 use Rattle.program.specs.declared.command.Command.{Command}
-use Rattle.program.specs.declared.command.Command.TheVariants.{End}
-use Rattle.program.proofs.Shape.{Ranged}
+use Rattle.program.specs.declared.command.Command.TheVariants.{End, Next, Read, Reset}
+use Rattle.program.specs.declared.refusal.Refusal.{Refusal}
+use Rattle.program.specs.declared.refusal.Refusal.TheVariants.{Waits}
+use Rattle.program.specs.Refusal.{refusal_at}
 use Rattle.program.proofs.ShapeRanges.{Within, within}
-use Rattle.rules.specs.declared.state.Activity.{Activity}
+use Rattle.rules.specs.declared.state.Fault.{Fault}
 use Rattle.rules.specs.declared.state.State.{State}
-use Rattle.rules.specs.declared.answer.Answer.TheVariants.{Refused}
 use Rattle.rules.specs.declared.answer.Stepped.{Stepped}
 use Rattle.rules.specs.State.{ended, answer_number}
-use Rattle.rules.specs.Waiting.{waits_for}
 use Rattle.rules.specs.Steps.{base, stepped, awaited, waits, refusal, advance}
 use Rattle.rules.proofs.Awaited.{awaited_zero}
 use Rattle.rules.proofs.Turn.{turn, turn_back}
+use Rattle.places.specs.declared.accepted.Accepted.{Accepted}
+use Rattle.places.specs.Known.{Known}
 use Rattle.fields.specs.Lent.{Lent}
-use Rattle.moves.specs.Moves.{Turns, TurnsIn}
+use Rattle.moves.specs.Moves.{Turns, TurnsIn, taken_number}
 use Rattle.moves.proofs.Standings.{spawned, standing}
-use Rattle.moves.proofs.Ranges.{ranged_here, ranged_at}
+use Rattle.moves.proofs.Ranges.{ranged_here}
 use Rattle.waits.specs.declared.inside.Inside.{Inside}
 use Rattle.waits.specs.Waits.{EndSees, Awaits}
-use Rattle.waits.proofs.Waitings.{spoilt_end, awaits_idle}
+use Rattle.waits.proofs.Waitings.{Other, spoilt_end, awaits_other}
 use Rattle.bodies.specs.Pops.{Ends}
 use Rattle.turns.specs.declared.Reply.{Reply}
-use Rattle.turns.specs.Turns.{CarriesIn, Carries}
+use Rattle.turns.specs.Turns.{CarriesIn}
 
 -- ONE ACTIVITY
 
@@ -47,70 +51,80 @@ goes_on p s i m u e z =
     turn_back p s i (record { spawned = m; unended = u; moves = le-ltb 0 (awaited p s i) q })
 
 -- END where it may go on: one inside has faulted exactly where F8 is due.
-pub ends : {t starts b c : List ℕ} {i work n : ℕ} {r : Inside} → EndSees t starts b i r → Ends r.faulted b c work i n → TurnsIn t starts End b c work i n
-ends {t} {i = i} e m = record { turns = λ k s l w. m.turns t k.scanned s l w (spoilt_end e k s l w.formed (spawned w) (turn (program_of t) s i w.goes).unended) }
+pub ends : {t starts b c : List ℕ} {i work n : ℕ} {r : Inside} → Known t starts → EndSees t b i r → Ends r.faulted b c work i n → TurnsIn t End b c work i n
+ends {t} {i = i} k e m = record { turns = λ s l w. m.turns t k.scanned s l w (spoilt_end e k s l w.formed (spawned w) (turn (program_of t) s i w.goes).unended) }
 
 -- A COMMAND, BY HOW MANY IT WAITS FOR
 
-module _ {t starts b : List ℕ} {i v : ℕ} {c : Command} (w : Awaits t starts c b i v) where
-  pub kept : {work : ℕ} → (v ≡ 0 → ⊥) → CarriesIn t starts c b b work i (record { number = 16; awaited = v })
+module _ (table : Accepted) {b : List ℕ} {i v : ℕ} {c : Command} (w : Awaits table.bytes.now c b i v) {r : Reply} where
+  -- Somebody is waited for.
+  kept : (v ≡ 0 → ⊥) → r.answer ≡ Err Waits → r.awaited ≡ v → CarriesIn table.bytes.now c b b i r
   unfolding advance
-  kept h = record {
+  kept h e n = record {
     turns =
-        λ k counted small s l f m u a.
-        let p = program_of t in
-        let r : advance base p s i ≡ stepped (Refused 16) s = rw (refused_by_lem p s i (w.tells k s l f m u a) h) in
-        record { state = subst (λ (x : Stepped). Lent b x.state) (sym r) l; number = ap (λ (x : Stepped). answer_number x.answer) (sym r) };
-    waits = w.tells;
+        λ s l f m u a.
+        let p = program_of table.bytes.now in
+        let q : advance base p s i ≡ stepped (Err (refusal_at 16)) s = rw (refused_by_lem p s i (w.tells s l f m u a) h) in
+        record { state = subst (λ (x : Stepped). Lent b x.state) (sym q) l; number = ap taken_number e ∙ ap (λ (x : Stepped). answer_number x.answer) (sym q) };
+    waits = λ s l f m u a. n ∙ w.tells s l f m u a;
   }
 
-  module _ {e : List ℕ} {work n : ℕ} {r : Reply} (z : v ≡ 0) (alone : (r.number ≡ n) × (r.awaited ≡ 0)) where
-    pub carried : TurnsIn t starts c b e work i n → CarriesIn t starts c b e work i r
-    carried m = record {
+  module _ {e : List ℕ} where
+    -- Nobody is.
+    carried : v ≡ 0 → r.awaited ≡ 0 → TurnsIn table.bytes.now c b e table.work i (taken_number r.answer) → CarriesIn table.bytes.now c b e i r
+    carried z n m = record {
       turns =
-          λ k counted small s l f j u a.
-          let g = goes_on (program_of t) s i j u (w.tells k s l f j u a) z in
-          let d = m.turns k s l (standing t s i work c k.scanned f g a counted (rw (← counted) small)) in
-          record { state = d.state; number = alone.0 ∙ d.number };
-      waits = λ k s l f j u a. alone.1 ∙ sym z ∙ w.tells k s l f j u a;
+          λ s l f j u a.
+          let t = table.bytes.now in
+          let g = goes_on (program_of t) s i j u (w.tells s l f j u a) z in
+          m.turns s l (standing t s i table.work c table.known.scanned f g a table.counted (rw (← table.counted) table.small));
+      waits = λ s l f j u a. n ∙ sym z ∙ w.tells s l f j u a;
     }
 
-    -- of a function that does not read the table
-    pub carried_simply : Turns c b e work i n → CarriesIn t starts c b e work i r
-    carried_simply m = carried (record { turns = λ k s l d. m.turns (program_of t) s l d })
+    -- One that asks how many it waits for.
+    pub met : ((v ≡ 0 → ⊥) → (r.answer ≡ Err Waits) × (r.awaited ≡ v) × (e ≡ b)) → (v ≡ 0 → r.awaited ≡ 0)
+        → (v ≡ 0 → TurnsIn table.bytes.now c b e table.work i (taken_number r.answer)) → CarriesIn table.bytes.now c b e i r
+    met h n m = go (eqb v 0) refl
+      where
+        go : (x : Bool) → eqb v 0 ≡ x → CarriesIn table.bytes.now c b e i r
+        go true q = let z = eqb-true v 0 q in carried z (n z) (m z)
+        go false q = let d = h (eqb-false v 0 q) in rw d.2 (kept (eqb-false v 0 q) d.0 d.1)
 
-    -- of one that asks for operands inside their ranges
-    pub carried_ranging : (Within c → Turns c b e work i n) → CarriesIn t starts c b e work i r
-    carried_ranging m = carried (record { turns = λ k s l d. (m (within c (ranged_here k d))).turns (program_of t) s l d })
+-- OF A FUNCTION
 
--- THE COMMAND THAT WAS MATCHED
+module _ (table : Accepted) {b e : List ℕ} {i n : ℕ} {c : Command} where
+  -- that does not read the table
+  pub simply : Turns c b e table.work i n → TurnsIn table.bytes.now c b e table.work i n
+  simply m = record { turns = λ s l d. m.turns (program_of table.bytes.now) s l d }
 
-module _ {t starts b e : List ℕ} {work i : ℕ} {r : Reply} {command c : Command} (q : command ≡ c) where
-  pub matched : CarriesIn t starts c b e work i r → CarriesIn t starts command b e work i r
-  matched m = rw q m
+  -- that asks for operands inside their ranges
+  pub ranging : (Within c → Turns c b e table.work i n) → TurnsIn table.bytes.now c b e table.work i n
+  ranging m = record { turns = λ s l d. (m (within c (ranged_here table.known d))).turns (program_of table.bytes.now) s l d }
 
-  -- by a function that reads no table
-  pub matched_simply : Carries c b e work i r → CarriesIn t starts command b e work i r
-  matched_simply m = matched (m.carries t starts)
+-- Whether it asks how many it waits for.
+abbrev asks : Command → Bool
+asks End = true
+asks Next = true
+asks (Read n) = true
+asks (Reset n) = true
+asks _ = false
 
-  -- by one that asks for operands inside their ranges
-  pub matched_ranging : (Within c → Carries c b e work i r) → CarriesIn t starts command b e work i r
-  matched_ranging m =
-      matched
-      (record {
-        turns =
-            λ k counted small s l f j u a.
-            ((m (within c (subst Ranged a (ranged_at s k f j u)))).carries t starts).turns k counted small s l f j u a;
-        waits = λ k s l f j u a. ((m (within c (subst Ranged a (ranged_at s k f j u)))).carries t starts).waits k s l f j u a;
-      })
+other : {c : Command} → asks c ≡ false → Other c
+other {c} idle = record {
+  not_end = λ e. let k : asks c ≡ true = ap asks e in cc;
+  not_next = λ e. let k : asks c ≡ true = ap asks e in cc;
+  not_read = λ n e. let k : asks c ≡ true = ap asks e in cc;
+  not_reset = λ n e. let k : asks c ≡ true = ap asks e in cc;
+}
 
-  -- A command that waits for nobody.
-  module _ {n : ℕ} (idle : (p : Program) (s : State) (a : Activity) (x : ℕ) → waits_for p s i a c x ≡ false) (alone : (r.number ≡ n) × (r.awaited ≡ 0)) where
-    pub plain : TurnsIn t starts c b e work i n → CarriesIn t starts command b e work i r
-    plain m = matched (carried (awaits_idle c idle) refl alone m)
+-- A command that was matched and waits for nobody.
+module _ (table : Accepted) {b e : List ℕ} {i : ℕ} {r : Reply} {command c : Command} (q : command ≡ c) {a : Result (Option Fault) Refusal} (idle : asks c ≡ false)
+    (alone : (r.answer ≡ a) × (r.awaited ≡ 0)) where
+  pub plain : TurnsIn table.bytes.now c b e table.work i (taken_number a) → CarriesIn table.bytes.now command b e i r
+  plain m = rw q (carried table (awaits_other (other idle)) refl alone.1 (rw alone.0 m))
 
-    pub plain_simply : Turns c b e work i n → CarriesIn t starts command b e work i r
-    plain_simply m = matched (carried_simply (awaits_idle c idle) refl alone m)
+  pub plain_simply : Turns c b e table.work i (taken_number a) → CarriesIn table.bytes.now command b e i r
+  plain_simply m = plain (simply table m)
 
-    pub plain_ranging : (Within c → Turns c b e work i n) → CarriesIn t starts command b e work i r
-    plain_ranging m = matched (carried_ranging (awaits_idle c idle) refl alone m)
+  pub plain_ranging : (Within c → Turns c b e table.work i (taken_number a)) → CarriesIn table.bytes.now command b e i r
+  plain_ranging m = plain (ranging table m)

@@ -3,6 +3,7 @@ use Prim.Native.Nat.{ℕ, ◌+◌, ◌≤◌, ◌<◌}
 use native.Mathlib.Omega.{arith}
 use native.Mathlib.Numerals.{add-one}
 use mathlib.Core.Path.{◌≡◌, refl, sym, ap, ◌∙◌}
+use mathlib.Core.Bool.{true}
 use mathlib.Core.List.{List, [], ◌∷◌, map, ◌++◌}
 use lib.ListN.{length, take, get_or, set}
 use lib.Seq.{take-suc, take_all}
@@ -10,10 +11,10 @@ use Rattle.program.specs.Bodies.{program_of}
 use Rattle.rules.specs.declared.state.State.{State}
 use Rattle.rules.specs.declared.answer.Stepped.{Stepped}
 use Rattle.rules.specs.State.{answer_number}
+use Rattle.rules.specs.WellFormed.{well_formed}
 use Rattle.rules.specs.Steps.{base, step_with, step, advance, awaited, awaited_count}
 use Rattle.rules.specs.Runs.{run_from, answers_from, awaited_from}
 use Rattle.rules.proofs.StepLaws.{fit}
-use Rattle.places.specs.Known.{Fit}
 use Rattle.turns.specs.Turns.{Followable, answered_from, awaited_into}
 use Rattle.turns.proofs.Filled.{Filled, filled_none, filled_store, filled_past, filled_all, filled_room}
 
@@ -82,18 +83,18 @@ module _ {t order before lent : List ℕ} {first s : State} {buffer told : List 
       )
 
 -- An order that can be followed.
-module _ {t : List ℕ} {starts : List ℕ} {work : ℕ} {order before lent : List ℕ} {first : State} (f : Followable t starts work first order (length before)) {s : State}
-    {buffer told : List ℕ} {k : ℕ} (u : Under t order before lent first s buffer told k) (more : k < length order) where
+module _ {t order before lent : List ℕ} {first : State} (f : Followable t first order (length before)) {s : State} {buffer told : List ℕ} {k : ℕ}
+    (u : Under t order before lent first s buffer told k) (more : k < length order) where
   -- The state on the way is well-formed, so its step needs no check.
-  pub fit_here : Fit t starts s
-  fit_here = record { known = f.known; formed = rw u.here (f.formed k more) }
+  formed_here : well_formed 65535 (program_of t) s ≡ true
+  formed_here = rw u.here (f.formed k more)
 
   module _ {r : State} {i v n : ℕ} (read : i ≡ get_or order k 0) (e : r ≡ (advance base (program_of t) s i).state) (answer : v ≡ answer_number (advance base (program_of t) s i).answer)
       (count : n ≡ awaited (program_of t) s i) where
     advanced : {now : List ℕ} → Filled lent now (awaited_from base t first (take k order) ++ (n ∷ [])) (k + 1) → Under t order before lent first r (set buffer k v) now (k + 1)
     unfolding step step_with awaited_count
     advanced told' =
-        let z = fit base t s f.accepted fit_here.formed in
+        let z = fit base t s f.accepted formed_here in
         let q : advance base (program_of t) s i ≡ step base t s i = rw z in
         let c : n ≡ awaited_count base t s i = count ∙ rw z in
         rw e (under_step u more f.fits q read answer c told')

@@ -1,11 +1,15 @@
 -- FETCH, STORE and ADD.
-use Rattle.std.proofs.Common.{◌≡◌, ℕ, ◌+◌, ◌*◌, ◌%◌, ◌^◌, ◌<◌, Bool, true, false, cond, eqb, leb, List, [], ◌∷◌, length, get_or, set, sym, refl, ap, ◌∙◌, arith, length-set, get_or-set_other, get_or-set_same, set-set, eqb-true}
+use Rattle.std.proofs.Common.{◌≡◌, ℕ, ◌+◌, ◌*◌, ◌%◌, ◌^◌, ◌<◌, Bool, true, false, cond, eqb, leb, Result, Ok, List, [], ◌∷◌, length, get_or, set, sym, refl, ap, ◌∙◌, arith, length-set, get_or-set_other, get_or-set_same, set-set, eqb-true}
+use Rattle.std.specs.Bool.{⊤}
 use lib.Seq.{set-get_or}
 use borrow.Author.Tests.{eqb-false}
-use Rattle.program.specs.Command.{opcode, is_end, width, held}
+use Rattle.program.specs.Command.{opcode, is_end, uses_cell, width, held}
 use Rattle.program.specs.Bodies.{Program}
 use Rattle.program.specs.declared.command.Command.{Command}
-use Rattle.program.specs.declared.command.Command.TheVariants.{Fetch, Store, Add}
+use Rattle.program.specs.declared.command.Command.TheVariants.{End, Next, Clock, Resume, Drop, Async, Finish, Repeat, Acc, Offer, Read, Reset, Put, Fetch, Store, Add, Atom, Choose}
+use Rattle.program.specs.declared.refusal.Refusal.{Refusal}
+use Rattle.program.proofs.Basic.{apart}
+use Rattle.program.proofs.Shape.{Ranged}
 use Rattle.program.proofs.ShapeRows.{span_is}
 use Rattle.rules.specs.declared.state.Activity.{Activity}
 use Rattle.rules.specs.declared.state.State.{State}
@@ -15,9 +19,9 @@ use Rattle.rules.specs.Effects.{Stored, Touch, with_register, cell_after, with_s
 use Rattle.rules.specs.Steps.{at, fault}
 use Rattle.moves.specs.Exceeding.{overfull}
 use Rattle.fields.specs.Lent.{Lent, Reads, ReadsAct, Writes, WritesAct, with_act, with_steps, with_cell}
-use Rattle.moves.specs.Moves.{Standing, Turned, GoesOn}
-use Rattle.moves.proofs.Standings.{few, fault_here, plain, calm, went, done}
-use Rattle.values.specs.Touched.{cell_in, touched, Touches}
+use Rattle.moves.specs.Moves.{Standing, Turned, Turns, GoesOn, unspent}
+use Rattle.moves.proofs.Standings.{few, left, fault_here, plain, calm, went, done}
+use Rattle.values.specs.Touched.{cell_in, touched, Touches, TouchesBy, TurnsOnCell}
 
 -- CELLS AFTER STORES
 
@@ -99,6 +103,36 @@ module _ {b c : List ℕ} {i d v : ℕ} (small : d < 16) where
             rw (q, e, k) at ((w small).writes _ l);
       }
 
+-- By the command.
+pub touch_by : {command made : Command} {b c : List ℕ} {i : ℕ} → command ≡ made → (Ranged made → Touches made b c i) → TouchesBy command b c i
+unfolding Ranged
+touch_by e f = rw e (record { touches = λ u r. f r })
+
+-- No other is on a cell.
+on_cells : (P : Command → Type 0) → ((d : ℕ) → P (Fetch d)) → ((d : ℕ) → P (Store d)) → ((d : ℕ) → P (Add d)) → (c : Command) → uses_cell c ≡ true → P c
+unfolding uses_cell
+on_cells P f s a End u = apart (cc)
+on_cells P f s a Next u = apart (cc)
+on_cells P f s a (Clock x) u = apart (cc)
+on_cells P f s a (Resume x) u = apart (cc)
+on_cells P f s a (Drop x) u = apart (cc)
+on_cells P f s a (Async x y) u = apart (cc)
+on_cells P f s a (Finish x) u = apart (cc)
+on_cells P f s a (Repeat x y) u = apart (cc)
+on_cells P f s a (Acc x y) u = apart (cc)
+on_cells P f s a (Offer x) u = apart (cc)
+on_cells P f s a (Read x) u = apart (cc)
+on_cells P f s a (Reset x) u = apart (cc)
+on_cells P f s a (Put x) u = apart (cc)
+on_cells P f s a (Fetch d) u = f d
+on_cells P f s a (Store d) u = s d
+on_cells P f s a (Add d) u = a d
+on_cells P f s a (Atom x) u = apart (cc)
+on_cells P f s a (Choose x) u = apart (cc)
+
+pub touch_other : {c : Command} {b d : List ℕ} {i : ℕ} → ((n : ℕ) → c ≡ Fetch n → ⊥) → ((n : ℕ) → c ≡ Store n → ⊥) → ((n : ℕ) → c ≡ Add n → ⊥) → TouchesBy c b d i
+touch_other {c} f s a = record { touches = λ u r. absurd (on_cells (λ (k : Command). c ≡ k → ⊥) f s a c u refl) }
+
 -- THE STEP
 
 applied_touching : (p : Program) (s : State) (i : ℕ) (x : Touch)
@@ -125,14 +159,28 @@ module _ {b : List ℕ} {p : Program} {s : State} {i work : ℕ} {c : Command} (
   first_touch f = f.touches s (untouched (act s i)) (rw (touched_none s i) l) (few w)
 
 module _ {b b₁ b₂ : List ℕ} {p : Program} {s : State} {i work d r : ℕ} (l : Lent b s) where
-  pub fetched : Standing p s i work (Fetch d) → false ≡ leb work s.steps → Touches (Fetch d) b b₁ i → GoesOn b₁ b₂ i 2 r → Turned p s i b₂ r
+  fetched : Standing p s i work (Fetch d) → false ≡ leb work s.steps → Touches (Fetch d) b b₁ i → GoesOn b₁ b₂ i 2 r → Turned p s i b₂ r
   unfolding fault_for effect_of overfull is_end
   fetched w left f g = touch_done l w left _ (fault_here w refl) refl (λ q. omega arith) refl (span_is (Fetch d)) refl (first_touch l w left f) g
 
-  pub stored : Standing p s i work (Store d) → false ≡ leb work s.steps → Touches (Store d) b b₁ i → GoesOn b₁ b₂ i 2 r → Turned p s i b₂ r
+  stored : Standing p s i work (Store d) → false ≡ leb work s.steps → Touches (Store d) b b₁ i → GoesOn b₁ b₂ i 2 r → Turned p s i b₂ r
   unfolding fault_for effect_of overfull is_end
   stored w left f g = touch_done l w left _ (fault_here w refl) refl (λ q. omega arith) refl (span_is (Store d)) refl (first_touch l w left f) g
 
-  pub added : Standing p s i work (Add d) → false ≡ leb work s.steps → Touches (Add d) b b₁ i → GoesOn b₁ b₂ i 2 r → Turned p s i b₂ r
+  added : Standing p s i work (Add d) → false ≡ leb work s.steps → Touches (Add d) b b₁ i → GoesOn b₁ b₂ i 2 r → Turned p s i b₂ r
   unfolding fault_for effect_of overfull is_end
   added w left f g = touch_done l w left _ (fault_here w refl) refl (λ q. omega arith) refl (span_is (Add d)) refl (first_touch l w left f) g
+
+-- A change of the bytes, and on.
+pub cell_done : {Change : List ℕ → List ℕ → Type 0} {b b₁ b₂ : List ℕ} {i work k : ℕ} {r : Result ⊤ Refusal} {u : ⊤} → Reads (unspent work) b r → r ≡ Ok u → Change b b₁ → GoesOn b₁ b₂ i 2 k
+    → TurnsOnCell Change b b₂ work i k
+cell_done {b = b} {b₁} {b₂} {i} {work} {k} f e q g =
+    record {
+      turns =
+          λ c u t.
+          on_cells (λ (x : Command). Touches x b b₁ i → Turns x b b₂ work i k)
+          (λ d o. record { turns = λ p s l w. fetched l w (left work l f e) o g })
+          (λ d o. record { turns = λ p s l w. stored l w (left work l f e) o g })
+          (λ d o. record { turns = λ p s l w. added l w (left work l f e) o g })
+          c u (t b₁ q);
+    }

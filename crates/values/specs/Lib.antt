@@ -1,1 +1,2 @@
 pub mod Touched
+pub mod Owned

@@ -1,30 +1,23 @@
 // READ.
 ghost use Rattle.std.specs.Prelude.{◌<◌};
 ghost use Rattle.program.specs.declared.command.Command.TheVariants.{Read};
-ghost use Rattle.moves.specs.Moves.{Turns};
+ghost use Rattle.moves.specs.Moves.{Turns, taken_number};
 
+use super::own::own_number;
 use fields::accumulators::accumulator_at;
-use fields::activities::{name_at, put_register};
-use moves::faults::read_fault;
-use moves::{fail, go_on, is_spent};
-use parts::numbers::fault_of;
+use fields::activities::put_register;
+use moves::{Taken, fail, go_on, unspent};
 
 // READ: the register becomes the value.
-pub fn read(work: u64, state: &mut [u8], i: usize, n: usize) -> u8
-    ensures { n < 8 → Turns (Read n) state.old state.new work i result }
+pub fn read(work: u64, state: &mut [u8], i: usize, n: usize) -> Taken
+    ensures { n < 8 → Turns (Read n) state.old state.new work i (taken_number result) }
 {
-    let fault = read_fault(state, i, n);
-    if fault != 0 {
-        return fail(work, state, i, fault_of(fault));
-    }
-    if is_spent(state, work) {
-        return 17;
-    }
-    let entry = name_at(state, i, n) as usize;
-    if entry == 0 {
-        return 0;
-    }
-    let c = accumulator_at(state, entry - 1);
+    let number = match own_number(state, i, n) {
+        Ok(number) => number,
+        Err(fault) => return fail(work, state, i, fault),
+    };
+    unspent(state, work)?;
+    let c = accumulator_at(state, number);
     put_register(state, i, c.value);
     go_on(state, i, 2)
 }

@@ -1,30 +1,23 @@
 // RESET.
 ghost use Rattle.std.specs.Prelude.{◌<◌};
 ghost use Rattle.program.specs.declared.command.Command.TheVariants.{Reset};
-ghost use Rattle.moves.specs.Moves.{Turns};
+ghost use Rattle.moves.specs.Moves.{Turns, taken_number};
 
+use super::own::own_number;
 use fields::accumulators::put_value;
-use fields::activities::{name_at, register_at};
-use moves::faults::read_fault;
-use moves::{fail, go_on, is_spent};
-use parts::numbers::fault_of;
+use fields::activities::register_at;
+use moves::{Taken, fail, go_on, unspent};
 
 // RESET: the value becomes the register.
-pub fn reset(work: u64, state: &mut [u8], i: usize, n: usize) -> u8
-    ensures { n < 8 → Turns (Reset n) state.old state.new work i result }
+pub fn reset(work: u64, state: &mut [u8], i: usize, n: usize) -> Taken
+    ensures { n < 8 → Turns (Reset n) state.old state.new work i (taken_number result) }
 {
-    let fault = read_fault(state, i, n);
-    if fault != 0 {
-        return fail(work, state, i, fault_of(fault));
-    }
-    if is_spent(state, work) {
-        return 17;
-    }
-    let entry = name_at(state, i, n) as usize;
-    if entry == 0 {
-        return 0;
-    }
+    let number = match own_number(state, i, n) {
+        Ok(number) => number,
+        Err(fault) => return fail(work, state, i, fault),
+    };
+    unspent(state, work)?;
     let register = register_at(state, i);
-    put_value(state, entry - 1, register);
+    put_value(state, number, register);
     go_on(state, i, 2)
 }

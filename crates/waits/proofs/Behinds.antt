@@ -20,14 +20,14 @@ use Rattle.rules.specs.Clocks.{is_held, is_live, is_behind, holds, behind}
 use Rattle.rules.specs.Waiting.{behind_of}
 use Rattle.rules.proofs.Tests.{and_true, true_false}
 use Rattle.rules.proofs.Search.{some_below_all}
-use Rattle.rules.proofs.Counting.{counted, uncounted, last}
+use Rattle.rules.proofs.Counting.{counted, uncounted}
 use Rattle.places.proofs.Searches.{some_more, found, passed, none, some_alike, some_below_swap}
 use Rattle.encoding.specs.Bytes.{bytes_of, part}
 use Rattle.encoding.specs.Encode.{encode_hold}
 use Rattle.fields.specs.Lent.{Lent, Reads, ReadsAct}
 use Rattle.fields.proofs.Within.{lent_part}
 use Rattle.fields.proofs.Stands.{part_hold, own_part, mine}
-use Rattle.waits.specs.Waits.{place_of, quiesced_place, keeps, Clocked, Gone, OwnPlaces, is_late, Late, Behind, is_unended}
+use Rattle.waits.specs.Waits.{place_of, quiesced_place, keeps, Clocked, Gone, OwnPlaces, is_late, Late, is_unended}
 
 -- PLACES
 
@@ -222,13 +222,13 @@ module _ {own b : List ℕ} {r : ℕ} (registration : r ≡ get_or b 5 0) where
           rw (z, le-ltb (place_of h) 0 (omega arith)) (sym (and-false (is_held h.registration)));
     }
 
-    pub late_by : {x y : ℕ} → (r ≡ 0 → ⊥) → x ≡ get_or b 0 0 → y ≡ get_or b 1 0 → Late own b (ltb (2 * (x + 256 * y) + r) (get_or own c 0))
+    pub late_by : {x : ℕ} → (r ≡ 0 → ⊥) → x ≡ get_or b 0 0 + 256 * get_or b 1 0 → Late own b (ltb (2 * x + r) (get_or own c 0))
     unfolding is_late
-    late_by {x} {y} n e f = record {
+    late_by {x} n e = record {
       looks =
           λ h q w.
           let held = held_number h.registration (λ z. n (registration ∙ registration_in h q ∙ z)) in
-          let p : 2 * (x + 256 * y) + r ≡ place_of h = let u = phase_in h q w in let v = registration ∙ registration_in h q in omega arith in
+          let p : 2 * x + r ≡ place_of h = let u = phase_in h q w in let v = registration ∙ registration_in h q in omega arith in
           rw (held, ← clock ∙ clock_in h q, p);
     }
 
@@ -278,11 +278,6 @@ unfolding count_below
 behind_yet = record { few = omega arith; counts = λ s l j k g. refl }
 
 module _ {b : List ℕ} {i made : ℕ} (made_of : Reads (λ (s : State). s.activities) b made) {count x : ℕ} (p : BehindTo b i count x) where
-  pub behind_all : x ≤ made → made ≤ x → Behind b i count
-  behind_all g h = record {
-    sees = λ s l j k o. let e = made_of.reads s l in last (behind_of s (act s i)) x s.activities count (omega arith) (omega arith) (p.counts s l j k o);
-  }
-
   module _ {own : List ℕ} (places : OwnPlaces b i own) (below : x < made) where
     -- by the names of x
     by_names : (s : State) → Lent b s → i < 64 → Clocked (act s i) → some_below 8 (λ n. is_late own (hold (act s x) n)) ≡ behind_of s (act s i) x

@@ -1,5 +1,5 @@
 -- How many inside a finish have not ended, and whether one has faulted, in lent bytes.
-use Prim.Native.Nat.{ℕ, zero, suc, ◌+◌, ◌*◌, ◌≤◌, ◌<◌}
+use Prim.Native.Nat.{ℕ, zero, suc, ◌+◌, ◌*◌, ◌≤◌, ◌<◌, max}
 use native.Mathlib.Omega.{arith}
 use mathlib.Core.Path.{◌≡◌, refl, ap, ◌∙◌}
 use mathlib.Core.List.{List}
@@ -18,12 +18,12 @@ use Rattle.rules.specs.Tree.{spawner_of, inside}
 use Rattle.rules.proofs.Tests.{decide, true_false, and_true, or_true}
 use Rattle.encoding.specs.Encode.{status_byte}
 use Rattle.places.specs.Rooted.{Rooted}
-use Rattle.places.proofs.Chains.{Passed, outside, none_unended, none_faulted, joined, passed_outside, passed_ended, passed_faulted, passed_unended, passed_none, all_counted, all_searched}
+use Rattle.places.proofs.Chains.{Passed, outside, none_unended, none_faulted, joined, passed_outside, passed_ended, passed_faulted, passed_unended, passed_none}
 use Rattle.fields.specs.Lent.{Lent, Gets, Reads, ReadsAct}
 use Rattle.fields.proofs.Stands.{own_number}
 use Rattle.fields.proofs.Own.{status_byte_lem}
 use Rattle.waits.specs.declared.inside.Inside.{Inside}
-use Rattle.waits.specs.Waits.{is_unended, Lowest, Sees}
+use Rattle.waits.specs.Waits.{Sees}
 
 -- STANDINGS, BY THE BYTE
 
@@ -41,9 +41,6 @@ status_three Running = refl
 status_three AtBarrier = refl
 status_three Ended = refl
 status_three (Faulted f) = refl
-
-pub unended_there : {b : List ℕ} {x r : ℕ} → ReadsAct (λ (a : Activity). status_byte a.status) b x r → ReadsAct is_unended b x (ltb r 2)
-unended_there {x = x} g = record { reads = λ s l j. ap (λ (n : ℕ). ltb n 2) (g.reads s l j) ∙ status_below (act s x).status }
 
 -- NOBODY WHO IS TOO LOW
 
@@ -70,11 +67,11 @@ low_outside s r w first x m h = go (decide (inside s w first x))
     go (inr e) = e
 
 -- Nobody below the lowest number is inside.
-none_low : (s : State) → Rooted s → (w first n : ℕ) → Lowest w first n → (x : ℕ) → x < s.activities → x < n → inside s w first x ≡ false
+none_low : (s : State) → Rooted s → (w first n : ℕ) → n ≡ max first (w + 1) → (x : ℕ) → x < s.activities → x < n → inside s w first x ≡ false
 none_low s r w first n b x m h = go (decide (ltb w x))
   where
     go : (ltb w x ≡ true) ⊎ (ltb w x ≡ false) → inside s w first x ≡ false
-    go (inl e) = low_outside s r w first x m (b.least x (ltb-true w x e) h)
+    go (inl e) = let l = ltb-true w x e in low_outside s r w first x m (omega arith)
     go (inr e) = outside s w first x (ltb-false w x e)
 
 -- THE PASS
@@ -103,7 +100,7 @@ module _ {b : List ℕ} {w first made : ℕ} (made_of : Reads (λ (s : State). s
   pub nobody_above : {r : Inside} → (r.unended ≡ 0) × (r.faulted ≡ false) → made ≤ w → Sees b w first r
   nobody_above n h = nobody_there n (λ s l k x m. let e = made_of.reads s l in outside s w first x (omega arith))
 
-  module _ {n : ℕ} (q : Lowest w first n) where
+  module _ {n : ℕ} (q : n ≡ max first (w + 1)) where
     -- nobody reaches the lowest number
     pub nobody_inside : {r : Inside} → (r.unended ≡ 0) × (r.faulted ≡ false) → made ≤ n → Sees b w first r
     nobody_inside z h = nobody_there z (λ s l k x m. let e = made_of.reads s l in none_low s k w first n q x m (omega arith))
@@ -115,25 +112,7 @@ module _ {b : List ℕ} {w first made : ℕ} (made_of : Reads (λ (s : State). s
     }
 
   module _ {marks : List Bool} {count : ℕ} {found : Bool} {x : ℕ} (p : InsideTo b w first marks count found x) where
-    pub inside_end : x ≤ made → made ≤ x → Sees b w first (record { unended = count; faulted = found })
-    inside_end g h = record {
-      counts = λ s l k. let e = made_of.reads s l in all_counted s w first (p.passed s l k) (omega arith) (omega arith);
-      finds = λ s l k. let e = made_of.reads s l in all_searched s w first (p.passed s l k) (omega arith) (omega arith);
-    }
-
     module _ (above : w < x) (from : first ≤ x) (below : x < made) {y : ℕ} (spawner : ReadsAct (λ (a : Activity). a.spawner) b x y) where
-      -- not lower than its child
-      pub not_lower : {r : Inside} → x ≤ y → Sees b w first r
-      not_lower {r} h = record { counts = λ s l k. absurd (never s l k); finds = λ s l k. absurd (never s l k) }
-        where
-          never : (s : State) → Lent b s → Rooted s → ⊥
-          never s l k =
-              let e = made_of.reads s l in
-              let f = k.few in
-              let d = k.falls x (omega arith) (omega arith) in
-              let q = spawner.reads s l (omega arith) in
-              omega arith
-
       module _ {r : Bool} (join : r ≡ eqb y w || get_or marks y false) where
         there : (s : State) → Lent b s → x < s.activities
         there s l = let e = made_of.reads s l in omega arith

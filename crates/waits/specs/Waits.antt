@@ -15,7 +15,6 @@ use Rattle.rules.specs.Effects.{env_of}
 use Rattle.rules.specs.Waiting.{behind_of, unended_below, unended_inside, awaited_at}
 use Rattle.rules.specs.Steps.{at, awaited}
 use Rattle.encoding.specs.Encode.{encode_hold}
-use Rattle.places.specs.Known.{Known}
 use Rattle.places.specs.Rooted.{Rooted, Placed}
 use Rattle.fields.specs.Lent.{Lent}
 use Rattle.waits.specs.declared.inside.Inside.{Inside}
@@ -63,12 +62,6 @@ pub record Behind (b : List ℕ) (i r : ℕ) : Type 0 where
 abbrev pub is_unended : Activity → Bool
 is_unended a = not (is_ended a.status)
 
--- The lowest number above w that is not below `first`.
-pub record Lowest (w first r : ℕ) : Type 0 where
-  pub above : w < r
-  pub from : first ≤ r
-  pub least : (x : ℕ) → w < x → x < r → x < first
-
 -- Of those inside the finish of activity w that began at number `first`: so many have not ended, and whether one has faulted.
 pub record Sees (b : List ℕ) (w first : ℕ) (r : Inside) : Type 0 where
   pub counts : (s : State) → Lent b s → Rooted s → r.unended ≡ count_below s.activities (unended_inside s w first)
@@ -77,9 +70,9 @@ pub record Sees (b : List ℕ) (w first : ℕ) (r : Inside) : Type 0 where
 -- AT A COMMAND
 
 -- For how many activity i, which has a stack, waits at END, and whether F8 is due there once it may go on.
-pub record EndSees (t starts b : List ℕ) (i : ℕ) (r : Inside) : Type 0 where
-  pub tells : (s : State) → Lent b s → i < 64 → Placed t starts s (act s i) → r.unended ≡ awaited_at (program_of t) s i (act s i) End
-  pub spoils : (s : State) → Lent b s → i < 64 → Placed t starts s (act s i) → r.faulted ≡ spoilt (program_of t) s i (act s i) End
+pub record EndSees (t b : List ℕ) (i : ℕ) (r : Inside) : Type 0 where
+  pub tells : (s : State) → Lent b s → i < 64 → Placed t s (act s i) → r.unended ≡ awaited_at (program_of t) s i (act s i) End
+  pub spoils : (s : State) → Lent b s → i < 64 → Placed t s (act s i) → r.faulted ≡ spoilt (program_of t) s i (act s i) End
 
 -- It waits at NEXT for so many.
 pub record NextAwaits (b : List ℕ) (i r : ℕ) : Type 0 where
@@ -91,6 +84,6 @@ pub record OwnAwaits (n : ℕ) (b : List ℕ) (i r : ℕ) : Type 0 where
       → r ≡ cond (eqb (read_fault (env_of s) i (act s i) n) 0) (count_below s.activities (unended_below s i)) 0
 
 -- Activity i of a well-formed state, which has not ended and stands on the command, waits for so many.
-pub record Awaits (t starts : List ℕ) (command : Command) (b : List ℕ) (i r : ℕ) : Type 0 where
-  pub tells : Known t starts → (s : State) → Lent b s → well_formed 65535 (program_of t) s ≡ true → i < s.activities → ended s i ≡ false
+pub record Awaits (t : List ℕ) (command : Command) (b : List ℕ) (i r : ℕ) : Type 0 where
+  pub tells : (s : State) → Lent b s → well_formed 65535 (program_of t) s ≡ true → i < s.activities → ended s i ≡ false
       → (at (program_of t) s i).command ≡ command → r ≡ awaited (program_of t) s i

@@ -7,44 +7,37 @@ use super::inside::standing_at;
 use fields::counts::activities_of;
 use fields::holds::hold_at;
 use parts::checks::is_held;
-use program::command::wide;
 
 // The own places by clock number: twice the phase and 2, which is the place of one quiesced in it; 0 for a clock that is not held.
 fn own_places(state: &[u8], i: usize) -> [usize; 16]
     ensures { OwnPlaces state.now i result }
 {
     let mut own = [0usize; 16];
-    let mut n: usize = 0;
-    while n < 8 {
+    for n in 0..8 {
         let hold = hold_at(state, i, n);
-        let registration = hold.registration;
         let clock = hold.clock as usize;
-        let phase = hold.phase as usize;
-        n += 1;
-        if is_held(registration) {
-            if clock < 16 {
-                own[clock] = 2 * phase + 2;
-            }
+        if is_held(hold.registration) && clock < 16 {
+            own[clock] = 2 * hold.phase as usize + 2;
         }
     }
     own
 }
 
-// Whether the clock name in these 8 bytes has a place below the own one: twice its phase, and 1 where live, 2 where quiesced.
-fn is_late(hold: &[u8], own: &[usize]) -> bool
-    requires hold_len { length hold.now ≡ 8 }
-    requires own_len { length own.now ≡ 16 }
+// Whether the clock name in these 8 bytes has a place below the own one: twice its phase, and 1 where live, 2 where quiesced. The bytes are read as they lie: a count
+// that makes a Hold of each takes twice as long.
+fn is_late(hold: &[u8], own: &[usize; 16]) -> bool
+    requires { length hold.now ≡ 8 }
     ensures { Late own.now hold.now result }
 {
-    let registration = wide(hold[5]);
+    let registration = hold[5] as usize;
     if registration == 0 {
         return false;
     }
-    let clock = wide(hold[4]);
+    let clock = hold[4] as usize;
     if 16 <= clock {
         return false;
     }
-    let phase = wide(hold[0]) + 256 * wide(hold[1]);
+    let phase = u16::from_le_bytes([hold[0], hold[1]]) as usize;
     2 * phase + registration < own[clock]
 }
 
@@ -68,20 +61,14 @@ pub fn count_behind(state: &[u8], i: usize) -> u8
     }
     let own = own_places(state, i);
     let mut count: u8 = 0;
-    let mut x: usize = 0;
-    'holders: while x < made {
-        let holds = 480 + 208 * x;
-        let unended = is_unended(state, x);
-        x += 1;
-        if unended {
-            let mut k: usize = 0;
-            while k < 8 {
-                let at = holds + 8 * k;
+    'holders: for x in 0..made {
+        if is_unended(state, x) {
+            for k in 0..8 {
+                let at = 480 + 208 * x + 8 * k;
                 if is_late(&state[at..at + 8], &own) {
                     count += 1;
                     continue 'holders;
                 }
-                k += 1;
             }
         }
     }

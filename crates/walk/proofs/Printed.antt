@@ -6,21 +6,21 @@ use native.Mathlib.Omega.{arith}
 use borrow.Author.Tests.{ne_eqb, le-leb}
 use lib.ListN.{length, take, drop, length-map, length-append}
 use lib.Seq.{take_at, take_all}
+use Rattle.std.specs.Prelude.{Ok}
 use Rattle.program.specs.Bodies.{program_of}
+use Rattle.program.specs.Refusal.{refusal_number, refusal_at}
 use Rattle.program.specs.Count.{work_of}
 use Rattle.program.specs.Table.{work_limit, number_of}
 use Rattle.rules.specs.declared.state.Status.{Status}
 use Rattle.rules.specs.declared.state.Status.TheVariants.{Running, AtBarrier, Ended, Faulted}
 use Rattle.rules.specs.declared.state.State.{State}
-use Rattle.rules.specs.declared.answer.Answer.{Answer}
 use Rattle.rules.specs.declared.answer.Stepped.{Stepped}
-use Rattle.rules.specs.declared.answer.Completion.TheVariants.{Done}
 use Rattle.rules.specs.declared.answer.Ran.{Ran}
 use Rattle.rules.specs.Search.{count_below}
-use Rattle.rules.specs.State.{answer_number, status_answer, ended}
-use Rattle.rules.specs.Steps.{base, start_state, start, step, awaited_count}
+use Rattle.rules.specs.State.{Answer, answer_number, status_answer, ended}
+use Rattle.rules.specs.Steps.{base, start_state, start, refusal, step, awaited_count}
 use Rattle.rules.specs.Runs.{run, answers, answers_from, awaiteds, awaited_from}
-use Rattle.rules.proofs.StepLaws.{refusal_number}
+use Rattle.rules.proofs.AnswerNumbers.{refusal_range, refused_number}
 use Rattle.rules.proofs.Applied.{steps_applied}
 use Rattle.rules.proofs.Turn.{doing, failed}
 use Rattle.rules.proofs.Calls.{start_taken}
@@ -50,7 +50,11 @@ module _ (t : List ℕ) (z : number_of work_limit t ≡ 0) where
       P x = x.state.steps ≡ s.steps + steps_of (answer_number x.answer)
 
       go : Call base t s i → P (step base t s i)
-      go (refused r e) = let q = refusal_number (program_of t) s i r in subst P (sym e) (omega (arith, steps_refused r (omega arith)))
+      go (refused r e) =
+          let n : ℕ = refusal_number (refusal_at (refusal (program_of t) s i)) in
+          let q = refusal_range (program_of t) s i r in
+          let same : n ≡ refusal (program_of t) s i = refused_number (program_of t) s i r in
+          subst P (sym e) (omega (arith, steps_refused {a = n} (λ z. absurd (omega (arith, q.0))) (omega (arith, q.1))))
       go (performed r f e) = subst P (sym e) (omega (arith, steps_applied s i (doing (program_of t) s i), accepted_counts (doing (program_of t) s i).self.status))
       go (faulted r f e) = subst P (sym e) (omega (arith, steps_applied s i (failed (program_of t) s i), accepted_counts (failed (program_of t) s i).self.status))
 
@@ -99,7 +103,7 @@ module _ (t order before counts : List ℕ) {after told : List ℕ} {r : Ran} (t
   state_left : r.state ≡ run base t order
   unfolding ran_of
   state_left =
-      let whole : ran_of t order (length before) ≡ record { completion = Done; state = run base t order } = rw (z, le-leb (length order) (length before) room) in
+      let whole : ran_of t order (length before) ≡ record { completion = Ok tt; state = run base t order } = rw (z, le-leb (length order) (length before) room) in
       ap (λ (x : Ran). x.state) (traced.runs.result ∙ whole)
 
   left : after ≡ map answer_number (answers base t order) ++ drop (length order) before

@@ -1,5 +1,5 @@
 -- What is written, text by text.
-use Rattle.std.proofs.Common.{◌≡◌, ℕ, zero, suc, ◌+◌, ◌<◌, ◌≤◌, min, Bool, true, false, cond, List, length, take, subst, refl, sym, ap, ◌∙◌, arith, eqb, eqb-true}
+use Rattle.std.proofs.Common.{◌≡◌, ℕ, zero, suc, ◌+◌, ◌<◌, ◌≤◌, min, Bool, true, false, cond, List, length, take, subst, sym, ap, arith}
 use Rattle.std.specs.Prelude.{OnOk, Ok, Err}
 use Rattle.std.specs.declared.option.Option.{Option}
 use Rattle.std.specs.declared.result.Result.{Result}
@@ -7,22 +7,25 @@ use Rattle.std.specs.Io.KnownBytes.{Appends}
 use Rattle.std.proofs.KnownBytes.{Appends-trans}
 use Rattle.program.specs.Bodies.{program_of}
 use Rattle.program.specs.Count.{work_of}
-use Rattle.program.specs.Table.{work_limit, number_of, counted, refused_with, table_of}
+use Rattle.program.specs.Table.{work_limit, number_of, counted, table_of}
+use Rattle.program.specs.declared.refusal.Refusal.{Refusal}
+use Rattle.program.specs.Refusal.{refusal_number}
+use Rattle.program.proofs.NumberLaws.{number_small}
+use Rattle.program.proofs.Refusals.{answered_ok, answered_err}
 use Rattle.program.specs.declared.table.Table.{Table}
 use Rattle.rules.specs.Search.{count_below}
 use Rattle.lines.specs.Text.{total_of}
+use Rattle.lines.specs.declared.put.Text.{Text}
 use Rattle.lines.specs.Put.{Put}
 use Rattle.lines.specs.Paged.{lines_between, Paged}
 use Rattle.lines.proofs.Paging.{between_join, total_length}
 use Rattle.lines.proofs.Pages.{handed}
-use Rattle.walk.proofs.Parts.{kept}
 
--- A text that fits the buffer is what stands before its end, and is handed on whole.
-pub sent : (P : List ℕ → Type 0) {before text after : List ℕ} {end : ℕ} → Put before 0 text after end → length text ≤ length before
-    → (end ≤ length after → P (take end after)) → P text
-sent P {before} {text} {after} {end} p fits written =
-    let whole : end ≡ length text = omega (arith, p.place) in
-    subst P (handed p whole) (written (omega (arith, kept p)))
+-- What fits an empty text is what stands before its end.
+pub sent : (P : List ℕ → Type 0) {a b : Text} {xs : List ℕ} → Put a xs b → a.end ≡ 0 → length xs ≤ length a.out.now → P (take b.end b.out.now) → P xs
+sent P {a} {b} {xs} p z fits written =
+    let whole : b.end ≡ a.end + length xs = omega (arith, p.place) in
+    subst P (handed p z whole) written
 
 -- What holds on Ok holds of what follows from it.
 pub on_ok : {V E P Q : Type 0} (r : Result V E) → (P → Q) → OnOk r P → OnOk r Q
@@ -31,15 +34,15 @@ on_ok (Err e) f p = tt
 
 -- A page more.
 pub more_written : (order answers counts : List ℕ) → length order ≤ length answers → length order ≤ length counts
-    → (a b c : Option (List ℕ)) {line : ℕ} {before after : List ℕ} {r : _} → line ≤ length order
-    → Appends a b (lines_between order answers counts 0 line) → Paged before order answers counts line after r
-    → (r.end ≤ length after → Appends b c (take r.end after)) → Appends a c (lines_between order answers counts 0 r.line)
-more_written order answers counts room space a b c {line} {before} {after} {r} h first page next =
+    → (p q r : Option (List ℕ)) {line next : ℕ} {a b : Text} → line ≤ length order
+    → Appends p q (lines_between order answers counts 0 line) → a.end ≡ 0 → Paged a order answers counts line b next
+    → Appends q r (take b.end b.out.now) → Appends p r (lines_between order answers counts 0 next)
+more_written order answers counts room space p q r {line} {next} {a} {b} h first z page last =
     let within = page.within h in
-    let fits : length (lines_between order answers counts line r.line) ≤ length before = omega (arith, page.put.place, page.whole) in
-    let second = sent (Appends b c) page.put fits next in
-    subst (Appends a c) (sym (between_join order answers counts 0 line r.line (omega arith) page.onward h (omega arith) (omega arith)))
-    (Appends-trans a b c (lines_between order answers counts 0 line) (lines_between order answers counts line r.line) first second)
+    let fits : length (lines_between order answers counts line next) ≤ length a.out.now = omega (arith, page.put.place, page.whole) in
+    let second = sent (Appends q r) page.put z fits last in
+    subst (Appends p r) (sym (between_join order answers counts 0 line next (omega arith) page.onward h (omega arith) (omega arith)))
+    (Appends-trans p q r (lines_between order answers counts 0 line) (lines_between order answers counts line next) first second)
 
 -- A count of those that pass below a number is at most that.
 count_few : (n : ℕ) (f : ℕ → Bool) → count_below n f ≤ n
@@ -56,17 +59,11 @@ pub total_fits : (work taken spawned : ℕ) (f : ℕ → Bool) → work < 184467
     → length (total_of work taken (count_below (min spawned 64) f) spawned) ≤ 118
 total_fits work taken spawned f a b c = total_length work taken (count_below (min spawned 64) f) spawned a b (omega (arith, count_few (min spawned 64) f)) c
 
--- What the reader answers of a table that it accepts, and of one that it turns down.
-pub number_read : (t : List ℕ) {x : Table} → x ≡ table_of work_limit t → x.number ≡ number_of work_limit t
-unfolding table_of counted
-number_read t {x} e = ap (λ (y : Table). y.number) e ∙ go (eqb (number_of work_limit t) 0) refl
-  where
-    go : (b : Bool) → eqb (number_of work_limit t) 0 ≡ b → (cond b (counted t) (refused_with (number_of work_limit t))).number ≡ number_of work_limit t
-    go true h = sym (eqb-true (number_of work_limit t) 0 h)
-    go false h = refl
+-- What the reader answers of a table that it turns down, and of one that it accepts.
+pub number_read : (t : List ℕ) {r : Refusal} → Err r ≡ table_of work_limit t → (refusal_number r ≡ number_of work_limit t) × (0 < number_of work_limit t)
+unfolding table_of
+number_read t e = answered_err (number_of work_limit t) (counted t) (sym e) (omega (arith, number_small work_limit t))
 
-pub work_read : (t : List ℕ) {x : Table} → x ≡ table_of work_limit t → number_of work_limit t ≡ 0 → x.work ≡ work_of (program_of t)
+pub work_read : (t : List ℕ) {x : Table} → Ok x ≡ table_of work_limit t → (number_of work_limit t ≡ 0) × (x.work ≡ work_of (program_of t))
 unfolding table_of counted
-work_read t {x} e z =
-    let whole : table_of work_limit t ≡ counted t = rw z refl in
-    ap (λ (y : Table). y.work) (e ∙ whole)
+work_read t e = let q = answered_ok (number_of work_limit t) (counted t) (sym e) in (q.0, ap (λ (y : Table). y.work) q.1)

@@ -1,50 +1,24 @@
 // Files read whole.
-ghost use Rattle.std.specs.Prelude.{◌≡◌, ◌≤◌, ◌<◌, false, length};
+ghost use Rattle.std.specs.Prelude.{◌<◌, length};
 ghost use Rattle.walk.specs.Counts.{IsPrefixLen, Consumed};
 
 use std::fs;
 use std::io::Read;
 use std::rt::Files;
 
-// What a read gave: whether it failed, and how many bytes came.
-#[derive(Clone, Copy)]
-struct Came {
-    failed: bool,
-    bytes: usize,
-}
-
-// One read.
-fn read_some<R: Read>(file: &mut R, part: &mut [u8]) -> Came
-    ensures in_bounds { result.bytes ≤ length part.old }
-    ensures consumed { result.failed ≡ false → Consumed (R.remaining file.old) (R.remaining file.new) result.bytes part.new (result.bytes ≡ 0) }
-{
-    match file.read(part) {
-        Ok(bytes) => Came {
-            failed: false,
-            bytes,
-        },
-        Err(_) => Came {
-            failed: true,
-            bytes: 0,
-        },
-    }
-}
-
-// Reads until the buffer is full or the file ends, and answers how many bytes came; an error counts as no byte.
+// Reads until the buffer is full or the file ends, and answers how many bytes came; an error counts as no byte. A read gives as many bytes as it likes, so no range
+// counts the turns.
 fn read_whole<R: Read>(file: &mut R, buf: &mut [u8]) -> usize
     ensures in_bounds { IsPrefixLen result buf.new }
     ensures whole { 0 < result → Consumed (R.remaining file.old) (R.remaining file.new) result buf.new (result < length buf.new) }
 {
     let mut done: usize = 0;
     while done < buf.len() {
-        let came = read_some(file, &mut buf[done..]);
-        if came.failed {
-            return 0;
+        match file.read(&mut buf[done..]) {
+            Ok(0) => return done,
+            Ok(came) => done += came,
+            Err(_) => return 0,
         }
-        if came.bytes == 0 {
-            return done;
-        }
-        done += came.bytes;
     }
     done
 }

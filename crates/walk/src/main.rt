@@ -10,7 +10,8 @@ mod counts; // counts.rt: the activities ended, and the total of a state
 mod print; // print.rt: text handed on, a page at a time
 
 use counts::put_ending;
-use print::{flush, print_lines};
+use lines::{Steps, Text};
+use print::{print_lines, send};
 use program::table::read_table;
 use std::io;
 use std::io::Write;
@@ -29,19 +30,27 @@ fn walk<W: Write>(
     requires in_bounds { 128 ≤ length out.old }
     ensures { OnOk result (Appends (W.contents to.old) (W.contents to.new) (walked job.now order.now)) }
 {
-    let found = read_table(job);
-    let number = found.number;
-    if number != 0 {
-        let end = lines::put_refused(out, 0, number as u64);
-        return flush(to, out, end);
-    }
+    let found = match read_table(job) {
+        Ok(found) => found,
+        Err(refusal) => {
+            let mut text = Text::new(out);
+            text.refused(refusal.number() as u64);
+            return send(to, &text);
+        }
+    };
     let ran = machine::trace(job, order, answers, counts);
-    let state = ran.state;
-    let headed = lines::put_header(out, 0);
-    flush(to, out, headed)?;
-    print_lines(to, out, order, answers, counts)?;
-    let end = put_ending(out, found.work, state);
-    flush(to, out, end)
+    let mut header = Text::new(out);
+    header.header();
+    send(to, &header)?;
+    let steps = Steps {
+        order,
+        answers,
+        awaited: counts,
+    };
+    print_lines(to, out, steps)?;
+    let mut total = Text::new(out);
+    put_ending(&mut total, found.work, &ran.state);
+    send(to, &total)
 }
 
 // A table has at most 2,048 bytes, so one byte more is enough (proofs/Enough.antt). Of the order, 65,535 bytes count.

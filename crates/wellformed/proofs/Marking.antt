@@ -30,40 +30,36 @@ module _ {t starts : List ℕ} (h : Known t starts) where
   starts_are : (b : ℕ) → get_or starts b 0 ≡ get_or (layout_of t).starts b 0
   starts_are b = ap (λ (l : List ℕ). get_or l b 0) h.laid
 
-  -- A frame's body and offset, as the code has them, and the number of bodies.
-  module _ (f : Frame) {n b o : ℕ} (is_count : n ≡ get_or t 0 0) (is_body : b ≡ f.body) (is_offset : o ≡ f.offset) where
+  module _ (f : Frame) where
     -- A body that the table lacks has no place.
-    pub no_body : n ≤ b → false ≡ is_placed (program_of t) f
+    pub no_body : get_or t 0 0 ≤ f.body → false ≡ is_placed (program_of t) f
     unfolding is_placed
     no_body l = let e = length_program t in rw (le-ltb f.body (length (program_of t)) (omega arith))
 
-    module _ (l : b < n) where
-      counted : b < get_or t 0 0
-      counted = rw is_count at l
-
+    module _ (l : f.body < get_or t 0 0) where
       -- A body of the table has a start, inside the table.
-      pub start_there : b < length starts
+      pub start_there : f.body < length starts
       start_there = let k = (passes t h.scanned).few in let s = ap length h.laid ∙ length_starts t h.scanned in omega arith
 
-      pub start_small : get_or starts b 0 < 2048
-      start_small = let k = start_inside t h.scanned b counted in let s = starts_are b in let m = table_short in omega arith
+      pub start_small : get_or starts f.body 0 < 2048
+      start_small = let k = start_inside t h.scanned f.body l in let s = starts_are f.body in let m = table_short in omega arith
 
       -- A frame of it is at a place where its offset is one.
-      by_offset : is_place (get_or (program_of t) b []) o ≡ is_placed (program_of t) f
+      by_offset : is_place (get_or (program_of t) f.body []) f.offset ≡ is_placed (program_of t) f
       unfolding is_placed
-      by_offset = let e = length_program t in rw (is_body, is_offset, lt-ltb f.body (length (program_of t)) (omega arith))
+      by_offset = let e = length_program t in rw (lt-ltb f.body (length (program_of t)) (omega arith))
 
       -- No place lies past the table's end.
-      pub past_end : length t ≤ get_or starts b 0 + o → false ≡ is_placed (program_of t) f
-      past_end q = by (is_place (get_or (program_of t) b []) o) refl
+      pub past_end : length t ≤ get_or starts f.body 0 + f.offset → false ≡ is_placed (program_of t) f
+      past_end q = by (is_place (get_or (program_of t) f.body []) f.offset) refl
         where
-          by : (p : Bool) → is_place (get_or (program_of t) b []) o ≡ p → false ≡ is_placed (program_of t) f
+          by : (p : Bool) → is_place (get_or (program_of t) f.body []) f.offset ≡ p → false ≡ is_placed (program_of t) f
           by true e =
-              let k = place_inside t h.scanned b counted o (place_from (get_or (program_of t) b []) o e) in
-              let s = starts_are b in
+              let k = place_inside t h.scanned f.body l f.offset (place_from (get_or (program_of t) f.body []) f.offset e) in
+              let s = starts_are f.body in
               absurd (let y : ⊥ = omega arith in y)
           by false e = sym (sym by_offset ∙ e)
 
       -- The marks say where the places are.
-      pub by_mark : {marks : List ℕ} → marks ≡ places_of t → eqb (get_or marks (get_or starts b 0 + o) 0) (b + 1) ≡ is_placed (program_of t) f
-      by_mark e = rw (e, starts_are b) (marked t h.scanned b counted o ∙ by_offset)
+      pub by_mark : {marks : List ℕ} → marks ≡ places_of t → eqb (get_or marks (get_or starts f.body 0 + f.offset) 0) (f.body + 1) ≡ is_placed (program_of t) f
+      by_mark e = rw (e, starts_are f.body) (marked t h.scanned f.body l f.offset ∙ by_offset)

@@ -1,23 +1,18 @@
--- Number 13 over the bytes of a state: the order of the tests, and the numbers 1 to 13.
+-- Number 13 over the bytes of a state: the order of the tests.
 use Prim.Native.Nat.{ℕ}
-use mathlib.Core.Path.{◌≡◌, refl, sym, ◌∙◌}
+use mathlib.Core.Path.{◌≡◌, refl, ◌∙◌}
 use mathlib.Core.List.{List}
-use mathlib.Core.Bool.{Bool, true, false, cond, ◌&&◌}
+use mathlib.Core.Bool.{Bool, true, false, ◌&&◌}
 use lib.ListN.{length}
 use lib.Dec.{leb, eqb}
 use borrow.Author.Tests.{eq-eqb, ne_eqb}
-use Rattle.program.specs.Bodies.{Program, program_of}
-use Rattle.program.specs.Table.{work_limit, table_of}
-use Rattle.program.specs.Table as table
-use Rattle.program.specs.declared.table.Table.{Table}
+use Rattle.program.specs.Bodies.{Program}
 use Rattle.rules.specs.WellFormed.{counts_fit, activity_fits, activities_fit, accumulators_fit, well_formed}
-use Rattle.rules.specs.Steps.{unfit}
 use Rattle.encoding.specs.Bytes.{number_of, part, byte_at, all_zero, parts_pass}
 use Rattle.encoding.specs.Decode.{state_of, accumulator_encodes, activity_encodes, fields_encode, encodes}
 use Rattle.wellformed.specs.declared.made.Made.{Made}
 use Rattle.wellformed.specs.Entries.{activity_is_fit, accumulator_entry, accumulator_entries}
-use Rattle.wellformed.specs.Passing.{passes, head_passes, accumulators_pass, activities_pass, unfit_bytes}
-use Rattle.wellformed.proofs.Numbers.{number_is}
+use Rattle.wellformed.specs.Passing.{passes, head_passes, accumulators_pass, activities_pass}
 
 -- THE WHOLE
 
@@ -68,28 +63,3 @@ module _ (p : Program) (b : List ℕ) where
       -- The activities decide.
       pub activities_left : {r : Bool} → accumulators_pass (made_in b) (part b 80 384) ≡ true → r ≡ activities_pass p (made_in b) (part b 464 13312) → r ≡ passes p b
       activities_left a e = e ∙ rw (eq-eqb (length b) 13776 l, h, a) at (whole p b)
-
--- THE NUMBERS 1 TO 13
-
--- The bytes decide as one test.
-bytes_number : (n : ℕ) (p : Program) (b : List ℕ) → cond (eqb n 0) (cond (passes p b) 0 13) n ≡ unfit_bytes n p b
-unfolding unfit_bytes unfit passes
-bytes_number n p b = by (eqb n 0) (encodes b) (well_formed 65535 p (state_of b))
-  where
-    by : (z e w : Bool) → cond z (cond (e && w) 0 13) n ≡ cond e (cond z (cond w 0 13) n) (cond z 13 n)
-    by true true w = refl
-    by true false w = refl
-    by false true w = refl
-    by false false w = refl
-
-module _ (t : List ℕ) (x : Table) (e : x ≡ table_of work_limit t) (b : List ℕ) where
-  -- A table that is turned down.
-  pub turned_down_lem : (x.number ≡ 0 → ⊥) → x.number ≡ unfit_bytes (table.number_of work_limit t) (program_of t) b
-  turned_down_lem h = let q = number_is t x e in q ∙ rw (ne_eqb (table.number_of work_limit t) 0 (λ z. h (q ∙ z))) at (bytes_number (table.number_of work_limit t) (program_of t) b)
-
-  -- Of an accepted table the state decides.
-  pub fit : x.number ≡ 0 → passes (program_of t) b ≡ true → 0 ≡ unfit_bytes (table.number_of work_limit t) (program_of t) b
-  fit z h = rw (eq-eqb (table.number_of work_limit t) 0 (sym (number_is t x e) ∙ z), h) at (bytes_number (table.number_of work_limit t) (program_of t) b)
-
-  pub not_fit : x.number ≡ 0 → passes (program_of t) b ≡ false → 13 ≡ unfit_bytes (table.number_of work_limit t) (program_of t) b
-  not_fit z h = rw (eq-eqb (table.number_of work_limit t) 0 (sym (number_is t x e) ∙ z), h) at (bytes_number (table.number_of work_limit t) (program_of t) b)

@@ -8,12 +8,8 @@ use Rattle.rules.specs.declared.state.Accumulator.{Accumulator}
 use Rattle.rules.specs.Search.{all_below}
 use Rattle.rules.specs.State.{bound, no_accumulator}
 use Rattle.rules.specs.Clocks.{is_held}
-use Rattle.rules.specs.WellFormed.{is_no_hold, is_no_accumulator, stack_fits, body_fits, barrier_fits, hold_fits, names_fit, spawner_fits}
+use Rattle.rules.specs.WellFormed.{is_no_accumulator, stack_fits, body_fits, barrier_fits, hold_fits, names_fit, spawner_fits}
 use Rattle.wellformed.specs.declared.made.Made.{Made}
-
--- A hold: "phase is over its limit", "an unmade thing is named"; a free one is all 0.
-unfoldable pub hold_is_fit : ℕ → ℕ → Hold → Bool
-hold_is_fit limit made h = cond (is_held h.registration) (leb h.phase limit && ltb h.clock made) (is_no_hold h)
 
 -- Two holds are not two names for one clock.
 unfoldable pub are_apart : Hold → Hold → Bool

@@ -1,14 +1,14 @@
 // Number 13 over the bytes of a state.
 ghost use Rattle.std.specs.Prelude.{◌≤◌, ◌≡◌, length};
-ghost use Rattle.program.specs.Bodies.{Program, program_of};
-ghost use Rattle.program.specs.Count.{work_of};
-ghost use Rattle.wellformed.specs.Marked.{Marked};
+ghost use Rattle.program.specs.Bodies.{program_of};
 ghost use Rattle.wellformed.specs.Passing.{passes, head_passes, accumulator_passes, accumulators_pass, activities_pass};
 
 use super::made::Made;
+use super::marks::Marked;
 use super::within::spawned_passes;
+use entries::entry::Entry;
 use entries::{is_zero, steps_in};
-use program::command::wide;
+use places::accepted::Accepted;
 
 // The bytes of a state.
 const LENGTH: usize = 13776;
@@ -25,17 +25,11 @@ const STEPS: u32 = 65535;
 // The highest number of an operator.
 const OPERATORS: u8 = 2;
 
-// The steps as a number of the work's width.
-fn wide_steps(x: u32) -> u64
-    ensures { result ≡ x }
-{
-    x as u64
-}
-
 // The fields before the cells: the version, the counts and the reserved bytes.
-fn head_passes(work: u64, state: &[u8]) -> bool
+#[tactic(auto, using(crate::proofs::Fields::head_fails, crate::proofs::Fields::head_left))]
+fn head_passes(table: &Accepted<'_>, state: &[u8]) -> bool
     requires { length state.now ≡ 13776 }
-    ensures { (p : Program) → work ≡ work_of p → result ≡ head_passes p state.now }
+    ensures { result ≡ head_passes (program_of table.now.bytes.now) state.now }
 {
     if state[0] != 1 {
         return false;
@@ -53,13 +47,14 @@ fn head_passes(work: u64, state: &[u8]) -> bool
     if STEPS < steps {
         return false;
     }
-    if work < wide_steps(steps) {
+    if table.work < steps as u64 {
         return false;
     }
     is_zero(&state[8..16])
 }
 
 // An accumulator that was made: its operator, its reserved bytes, its owner.
+#[tactic(auto, using(crate::proofs::Fields::operator_fails, crate::proofs::Fields::owner_fails, crate::proofs::Fields::accumulator_left))]
 fn accumulator_passes(made: Made, bytes: &[u8]) -> bool
     requires { length bytes.now ≡ 24 }
     ensures { result ≡ accumulator_passes made bytes.now }
@@ -78,58 +73,35 @@ fn accumulators_pass(made: Made, bytes: &[u8]) -> bool
     requires { (length bytes.now ≡ 384) × (made.accumulators ≤ 16) }
     ensures { result ≡ accumulators_pass made bytes.now }
 {
-    let many = wide(made.accumulators);
-    let mut i: usize = 0;
-    while i < many {
-        let at = 24 * i;
-        if accumulator_passes(made, &bytes[at..at + 24]) {
-            i += 1;
-        } else {
-            return false;
-        }
-    }
-    is_zero(&bytes[24 * many..])
+    let many = made.accumulators as usize;
+    (0..many).all(|i| accumulator_passes(made, &bytes[24 * i..24 * i + 24]))
+        && is_zero(&bytes[24 * many..])
 }
 
-// The activities: each that was spawned is as it should be, all bytes behind them are 0.
-fn activities_pass(
-    table: &[u8],
-    starts: &[usize],
-    marks: &[u8; 2048],
-    made: Made,
-    bytes: &[u8],
-) -> bool
-    requires { (Marked table.now starts.now marks.now) × (length bytes.now ≡ 13312) × (made.activities ≤ 64) }
-    ensures { result ≡ activities_pass (program_of table.now) made bytes.now }
+// The activities: each that was spawned is as it should be, all bytes behind them are 0. One function for these and the accumulators would take their number,
+// their size and their test, and be no shorter.
+fn activities_pass(marked: &Marked<'_, '_>, made: Made, bytes: &[u8]) -> bool
+    requires { (length bytes.now ≡ 13312) × (made.activities ≤ 64) }
+    ensures { result ≡ activities_pass (program_of marked.now.table.bytes.now) made bytes.now }
 {
-    let spawned = wide(made.activities);
-    let mut i: usize = 0;
-    while i < spawned {
-        let at = 208 * i;
-        if spawned_passes(table, starts, marks, made, i, &bytes[at..at + 208]) {
-            i += 1;
-        } else {
-            return false;
-        }
-    }
-    is_zero(&bytes[208 * spawned..])
+    let spawned = made.activities as usize;
+    (0..spawned).all(|i| {
+        let entry = Entry {
+            bytes: &bytes[208 * i..208 * i + 208],
+        };
+        spawned_passes(marked, made, i, &entry)
+    }) && is_zero(&bytes[208 * spawned..])
 }
 
 // Whether bytes encode a state that is fit for a table that was read.
-pub fn state_passes(
-    table: &[u8],
-    starts: &[usize],
-    marks: &[u8; 2048],
-    work: u64,
-    state: &[u8],
-) -> bool
-    requires { (Marked table.now starts.now marks.now) × (work ≡ work_of (program_of table.now)) }
-    ensures { result ≡ passes (program_of table.now) state.now }
+#[tactic(auto, using(crate::proofs::PassLaws::other_length, crate::proofs::PassLaws::head_unfit, crate::proofs::PassLaws::accumulators_unfit, crate::proofs::PassLaws::activities_left, crate::proofs::Fields::head_facts))]
+pub fn state_passes(marked: &Marked<'_, '_>, state: &[u8]) -> bool
+    ensures { result ≡ passes (program_of marked.now.table.bytes.now) state.now }
 {
     if state.len() != LENGTH {
         return false;
     }
-    if !head_passes(work, state) {
+    if !head_passes(&marked.table, state) {
         return false;
     }
     let made = Made {
@@ -140,5 +112,5 @@ pub fn state_passes(
     if !accumulators_pass(made, &state[80..464]) {
         return false;
     }
-    activities_pass(table, starts, marks, made, &state[464..13776])
+    activities_pass(marked, made, &state[464..13776])
 }

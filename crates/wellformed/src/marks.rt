@@ -1,32 +1,34 @@
-// Places, by the table's marks.
-ghost use Rattle.std.specs.Prelude.{◌<◌, ◌≡◌};
+// An accepted table with its marks, and what is at a place of it.
+ghost use Rattle.std.specs.Prelude.{◌≡◌};
 ghost use Rattle.program.specs.Bodies.{program_of};
+ghost use Rattle.program.specs.Places.{places_of};
 ghost use Rattle.rules.specs.WellFormed.{is_placed};
-ghost use Rattle.wellformed.specs.Marked.{Marked};
 
-use program::command::wide;
+use places::accepted::Accepted;
 use rules::state::Frame;
 
-// Two bytes as a number of the machine's width.
-fn wide_offset(x: u16) -> usize
-    ensures { (result ≡ x) × (result < 65536) }
-{
-    x as usize
+#[derive(Clone, Copy)]
+pub struct Marked<'a, 'm> {
+    pub table: Accepted<'a>,
+    pub marks: &'m [u8; 2048],
+    // The marks are those of its places.
+    pub ghost places: { marks.now ≡ places_of table.bytes.now },
 }
 
-// A place is a command of its body (the k commands belong to their ATOM): the table's marks say so.
-pub fn is_placed(table: &[u8], starts: &[usize], marks: &[u8; 2048], f: Frame) -> bool
-    requires { Marked table.now starts.now marks.now }
-    ensures { result ≡ is_placed (program_of table.now) f }
-{
-    let bodies = wide(table[0]);
-    let body = wide(f.body);
-    if bodies <= body {
-        return false;
+impl<'a, 'm> Marked<'a, 'm> {
+    // A place is a command of its body (the k commands belong to their ATOM): the table's marks say so.
+    pub fn is_placed(&self, f: Frame) -> bool
+        ensures { result ≡ is_placed (program_of self.now.table.bytes.now) f }
+    {
+        let table = self.table;
+        let body = f.body as usize;
+        if table.bytes[0] <= f.body {
+            return false;
+        }
+        let at = table.starts[body] + f.offset as usize;
+        if table.bytes.len() <= at {
+            return false;
+        }
+        self.marks[at] as usize == body + 1
     }
-    let at = starts[body] + wide_offset(f.offset);
-    if table.len() <= at {
-        return false;
-    }
-    wide(marks[at]) == body + 1
 }

@@ -1,5 +1,5 @@
-// The clock names in an activity's 208 bytes.
-ghost use Rattle.std.specs.Prelude.{ℕ, ◌<◌, length, true, ◌&&◌, not, ◌≡◌};
+// The clock names in an activity's bytes.
+ghost use Rattle.std.specs.Prelude.{ℕ, ◌<◌, true, ◌&&◌, not, ◌≡◌};
 ghost use Rattle.rules.specs.Search.{all_below};
 ghost use Rattle.rules.specs.State.{hold};
 ghost use Rattle.rules.specs.Clocks.{holds_some};
@@ -10,92 +10,75 @@ ghost use Rattle.entries.specs.Entries.{hold_bytes};
 ghost use Rattle.wellformed.specs.Entries.{are_apart};
 ghost use Rattle.wellformed.specs.Passing.{holds_pass};
 
-use super::clocks::{are_apart, hold_fits};
-use entries::{hold_in, hold_whole, hold_zero};
+use super::clocks::are_apart;
+use entries::entry::Entry;
 use parts::checks::is_held;
+use rules::state::Hold;
 
-// Clock name k; most are free.
-fn hold_passes(made: u8, a: &[u8], k: usize) -> bool
-    requires { (length a.now ≡ 208) × (k < 8) }
-    ensures { result ≡ (hold_encodes (hold_bytes a.now k) && hold_fits 65535 made (activity_at a.now) k) }
+// The limit of a phase.
+const PHASES: u16 = 65535;
+
+// Clock name k: most are free, and then all 0; of one that is not, the phase is within its limit and the clock is made.
+fn hold_passes(made: u8, a: &Entry<'_>, k: usize) -> bool
+    requires { k < 8 }
+    ensures { result ≡ (hold_encodes (hold_bytes a.now.bytes.now k) && hold_fits 65535 made (activity_at a.now.bytes.now) k) }
 {
-    if hold_zero(a, k) {
+    if a.hold_zero(k) {
         return true;
     }
-    if !hold_whole(a, k) {
+    if !a.hold_whole(k) {
         return false;
     }
-    let h = hold_in(a, k);
-    hold_fits(made, h)
+    let h = a.hold(k);
+    if !is_held(h.registration) {
+        return false;
+    }
+    h.phase <= PHASES && h.clock < made
 }
 
 // The clock names.
-pub fn holds_pass(made: u8, a: &[u8]) -> bool
-    requires { length a.now ≡ 208 }
-    ensures { result ≡ holds_pass made a.now }
+pub fn holds_pass(made: u8, a: &Entry<'_>) -> bool
+    ensures { result ≡ holds_pass made a.now.bytes.now }
 {
-    let mut k: usize = 0;
-    while k < 8 {
-        if hold_passes(made, a, k) {
-            k += 1;
-        } else {
-            return false;
-        }
-    }
-    true
+    (0..8).all(|k| hold_passes(made, a, k))
 }
 
-// No name before name k is for its clock, where it has one.
-fn name_fits(a: &[u8], k: usize) -> bool
-    requires { (length a.now ≡ 208) × (k < 8) × (parts_pass 8 8 hold_encodes (part a.now 16 64) ≡ true) }
-    ensures { result ≡ all_below k (λ (j : ℕ). are_apart (hold (activity_at a.now) j) (hold (activity_at a.now) k)) }
-{
-    let own = hold_in(a, k);
-    let registration = own.registration;
-    if !is_held(registration) {
-        return true;
-    }
-    let mut j: usize = 0;
-    while j < k {
-        let other = hold_in(a, j);
-        if are_apart(other, own) {
-            j += 1;
-        } else {
-            return false;
-        }
-    }
-    true
+#[derive(Clone, Copy)]
+pub struct Named<'a> {
+    pub entry: Entry<'a>,
+    // Its bytes encode clock names.
+    pub ghost whole: { parts_pass 8 8 hold_encodes (part entry.bytes.now 16 64) ≡ true },
 }
 
-// One activity has no two names for one clock.
-pub fn names_fit(a: &[u8]) -> bool
-    requires { (length a.now ≡ 208) × (parts_pass 8 8 hold_encodes (part a.now 16 64) ≡ true) }
-    ensures { result ≡ names_fit (activity_at a.now) }
-{
-    let mut k: usize = 0;
-    while k < 8 {
-        if name_fits(a, k) {
-            k += 1;
-        } else {
-            return false;
-        }
+impl<'a> Named<'a> {
+    // Clock name k.
+    fn hold(&self, k: usize) -> Hold
+        requires { k < 8 }
+        ensures { result ≡ hold (activity_at self.now.entry.bytes.now) k }
+    {
+        self.entry.hold(k)
     }
-    true
-}
 
-// Whether it holds no clock.
-pub fn holds_none(a: &[u8]) -> bool
-    requires { (length a.now ≡ 208) × (parts_pass 8 8 hold_encodes (part a.now 16 64) ≡ true) }
-    ensures { result ≡ not (holds_some (activity_at a.now)) }
-{
-    let mut k: usize = 0;
-    while k < 8 {
-        let h = hold_in(a, k);
-        let registration = h.registration;
-        if is_held(registration) {
-            return false;
-        }
-        k += 1;
+    // No name before name k is for its clock, where it has one.
+    fn name_fits(&self, k: usize) -> bool
+        requires { k < 8 }
+        ensures { result ≡ all_below k (λ (j : ℕ). are_apart (hold (activity_at self.now.entry.bytes.now) j) (hold (activity_at self.now.entry.bytes.now) k)) }
+    {
+        let own = self.hold(k);
+        !is_held(own.registration) || (0..k).all(|j| are_apart(self.hold(j), own))
     }
-    true
+
+    // One activity has no two names for one clock.
+    pub fn names_fit(&self) -> bool
+        ensures { result ≡ names_fit (activity_at self.now.entry.bytes.now) }
+    {
+        (0..8).all(|k| self.name_fits(k))
+    }
+
+    // Whether it holds no clock.
+    pub fn holds_none(&self) -> bool
+        ensures { result ≡ not (holds_some (activity_at self.now.entry.bytes.now)) }
+    {
+        (0..8).all(|k| !is_held(self.hold(k).registration))
+    }
 }

@@ -1,40 +1,51 @@
 -- The bytes are made, read and copied; what is turned down leaves the buffer.
 use native.Mathlib.Omega.{arith}
-use mathlib.Core.Path.{◌≡◌, sym, ap, ◌∙◌}
+use mathlib.Core.Path.{◌≡◌, sym, ◌∙◌}
+use lib.Seq.{length-take-le}
+use Rattle.std.proofs.lemmas.Result.{err_from_is_err_and}
 use Rattle.program.specs.Table.{work_limit, number_of}
-use Rattle.program.specs.declared.table.Table.{Table}
-use Rattle.program.proofs.ShapeLaws.{table_number}
+use Rattle.program.proofs.TableLaws.{table_read, table_refused}
 use Rattle.builder.specs.Build.{list_bytes}
-use Rattle.builder.specs.Filled.{Written}
-use Rattle.builder.proofs.Answers.{unmade, made, written-number, written-bytes, build-refused, build-short, build-done}
+use Rattle.builder.proofs.Answers.{written-long, written-inside, written-number, written-bytes, build-refused, build-long, build-short, build-done}
 use Rattle.builder.proofs.build.Goals as goal
 
-pub returns-then-length-eq0 : goal.returns-then-length-eq0
-returns-then-length-eq0 c =
-    let whole = (build-refused c.args.entries.now c.args.table.now (unmade c.fill-length.ensures c.if-length-eq0.true) (λ e. omega arith)) in
-    record { number_value = whole.0; length_value = whole.1.0; table_after = whole.1.1.0; table_after_2 = whole.1.1.1 }
+pub returns-in_default : goal.returns-in_default
+returns-in_default c =
+    let b = build-long c.args.entries.now c.args.table.now (c.fill.ensures.over c.in_default.is) in
+    record { value = b.value; table_after = b.table_after; reads_back = b.reads_back }
 
-pub returns-then-read-ne0 : goal.returns-then-read-ne0
-returns-then-read-ne0 c =
-    let written : Written c.args.entries.now c.fill-length.new.out c.fill-length.result = made c.fill-length.ensures c.if-length-eq0.false in
-    let number-here : c.read_table-read.result.number ≡ number_of work_limit (list_bytes c.args.entries.now) = ap (λ (x : Table). x.number) c.read_table-read.ensures ∙ table_number work_limit _ ∙ written-number written in
-    let whole = (build-refused c.args.entries.now c.args.table.now number-here c.if-read-ne0.true) in
-    record { number_value = whole.0; length_value = whole.1.0; table_after = whole.1.1.0; table_after_2 = whole.1.1.1 }
+pub slice_bounds-room-end : goal.slice_bounds-room-end
+slice_bounds-room-end c = written-inside (c.fill.ensures.fits c.in-Some.length c.in-Some.is)
+
+pub slice_bounds-made-end : goal.slice_bounds-made-end
+slice_bounds-made-end c = sym (written-long (c.fill.ensures.fits c.in-Some.length c.in-Some.is))
+
+pub returns-in_err-read_table : goal.returns-in_err-read_table
+returns-in_err-read_table c =
+    let p = err_from_is_err_and c.from_residual.result c.from_residual.ensures.1 in
+    let w = c.fill.ensures.fits c.in-Some.length c.in-Some.is in
+    let n = table_refused work_limit _ c.read_table.ensures c.in_err-read_table.was in
+    let b = build-refused c.args.entries.now c.args.table.now c.in_err-read_table.field-0.0 (n.0 ∙ written-number w) in
+    record { value = rw (p.1, p.2) b.value; table_after = b.table_after; reads_back = rw p.1 tt }
 
 pub returns-then-table-length : goal.returns-then-table-length
 returns-then-table-length c =
-    let written : Written c.args.entries.now c.fill-length.new.out c.fill-length.result = made c.fill-length.ensures c.if-length-eq0.false in
-    let number-here : c.read_table-read.result.number ≡ number_of work_limit (list_bytes c.args.entries.now) = ap (λ (x : Table). x.number) c.read_table-read.ensures ∙ table_number work_limit _ ∙ written-number written in
-    let accepted : number_of work_limit (list_bytes c.args.entries.now) ≡ 0 = sym number-here ∙ c.if-read-ne0.false in
-    let whole = (build-short c.args.entries.now c.args.table.now accepted (omega (arith, c.if-table-length.true, written.long))) in
-    record { number_value = whole.0; length_value = whole.1.0; table_after = whole.1.1.0; table_after_2 = whole.1.1.1 }
+    let w = c.fill.ensures.fits c.in-Some.length c.in-Some.is in
+    let n : number_of work_limit (list_bytes c.args.entries.now) ≡ 0 = sym (written-number w) ∙ (table_read work_limit _ c.read_table.ensures c.in_ok-read_table.was).0 in
+    let l = w.long in
+    let b = build-short c.args.entries.now c.args.table.now n (omega arith) in
+    record { value = b.value; table_after = b.table_after; reads_back = b.reads_back }
+
+pub copy_from_slice-requires : goal.copy_from_slice-requires
+copy_from_slice-requires c =
+    let w = c.fill.ensures.fits c.in-Some.length c.in-Some.is in
+    let made = written-long w in
+    let room = length-take-le c.in-Some.length c.args.table.now c.if-table-length.false in
+    omega arith
 
 pub returns : goal.returns
 returns c =
-    let written : Written c.args.entries.now c.fill-length.new.out c.fill-length.result = made c.fill-length.ensures c.if-length-eq0.false in
-    let number-here : c.read_table-read.result.number ≡ number_of work_limit (list_bytes c.args.entries.now) = ap (λ (x : Table). x.number) c.read_table-read.ensures ∙ table_number work_limit _ ∙ written-number written in
-    let accepted : number_of work_limit (list_bytes c.args.entries.now) ≡ 0 = sym number-here ∙ c.if-read-ne0.false in
-    let whole = (let w = written in
-    let a = accepted in
-    build-done c.args.entries.now c.args.table.now a w.five w.long (written-bytes w a) c.if-table-length.false c.copy.ensures) in
-    record { number_value = whole.0; length_value = whole.1.0; table_after = whole.1.1.0; table_after_2 = whole.1.1.1 }
+    let w = c.fill.ensures.fits c.in-Some.length c.in-Some.is in
+    let n : number_of work_limit (list_bytes c.args.entries.now) ≡ 0 = sym (written-number w) ∙ (table_read work_limit _ c.read_table.ensures c.in_ok-read_table.was).0 in
+    let b = build-done c.args.entries.now c.args.table.now n w.five w.long (written-bytes w n) c.if-table-length.false (rw (c.copy_from_slice.ensures.after, written-long w)) in
+    record { value = b.value; table_after = b.table_after; reads_back = b.reads_back }

@@ -1,18 +1,39 @@
 -- The check decides, then what the activity meets.
 use native.Mathlib.Omega.{arith}
-use Rattle.calls.proofs.Checking.{passed, known_read}
-use Rattle.calls.proofs.Telling.{awaits_refused, awaits_waiting, awaits_other}
+use Rattle.std.proofs.lemmas.Result.{err_from_is_err_and}
+use Rattle.calls.proofs.Checking.{read_back, turned_down, passed}
+use Rattle.calls.proofs.Telling.{awaits_refused, awaits_some, awaits_err, awaits_ok}
 use Rattle.calls.proofs.awaited.Goals as goal
 
-pub returns-then-number-ne0 : goal.returns-then-number-ne0
-returns-then-number-ne0 c = awaits_refused c.args.table.now c.args.state.now c.check_state-checked.ensures.0 c.args.activity c.if-number-ne0.true
+pub returns-in_err-read : goal.returns-in_err-read
+returns-in_err-read c =
+    let t = c.args.table.now in
+    let b = c.args.state.now in
+    let p = err_from_is_err_and c.from_residual.result c.from_residual.ensures.1 in
+    let k = turned_down t b c.check_state.ensures c.in_err-read.was in
+    rw (p.1, p.2) (awaits_refused t b k.0 k.1 c.args.activity)
 
-pub returns-then-seen-eq16 : goal.returns-then-seen-eq16
-returns-then-seen-eq16 c =
-    awaits_waiting c.args.table.now c.args.state.now c.check_state-checked.ensures.0 c.if-number-ne0.false (λ i. omega (arith, c.type_inv.state i))
-    (known_read c.args.table.now c.check_state-checked.ensures.1 (passed c.args.table.now c.args.state.now c.check_state-checked.ensures.0 c.if-number-ne0.false).accepted) c.look-seen.ensures c.if-seen-eq16.true
+pub accepted-requires : goal.accepted-requires
+accepted-requires c = read_back c.args.table.now (passed c.args.table.now c.args.state.now c.check_state.ensures c.in_ok-read.was).1
 
-pub returns : goal.returns
-returns c =
-    awaits_other c.args.table.now c.args.state.now c.check_state-checked.ensures.0 c.if-number-ne0.false (λ i. omega (arith, c.type_inv.state i))
-    (known_read c.args.table.now c.check_state-checked.ensures.1 (passed c.args.table.now c.args.state.now c.check_state-checked.ensures.0 c.if-number-ne0.false).accepted) c.look-seen.ensures c.if-seen-eq16.false
+pub returns-in_err-seen : goal.returns-in_err-seen
+returns-in_err-seen c =
+    let t = c.args.table.now in
+    let b = c.args.state.now in
+    let k = passed t b c.check_state.ensures c.in_ok-read.was in
+    let p = err_from_is_err_and c.from_residual-in_err-seen.result c.from_residual-in_err-seen.ensures.1 in
+    rw (p.1, p.2) (awaits_err t b k.0 (λ i. omega (arith, c.type_inv.state i)) (rw c.accepted.ensures at c.look-seen.ensures) c.if-seen-eq0.true c.in_err-seen.was)
+
+pub returns-in_ok-seen : goal.returns-in_ok-seen
+returns-in_ok-seen c =
+    let t = c.args.table.now in
+    let b = c.args.state.now in
+    let k = passed t b c.check_state.ensures c.in_ok-read.was in
+    awaits_ok t b k.0 (λ i. omega (arith, c.type_inv.state i)) (rw c.accepted.ensures at c.look-seen.ensures) c.if-seen-eq0.true c.in_ok-seen.was
+
+pub returns-else-seen-eq0 : goal.returns-else-seen-eq0
+returns-else-seen-eq0 c =
+    let t = c.args.table.now in
+    let b = c.args.state.now in
+    let k = passed t b c.check_state.ensures c.in_ok-read.was in
+    awaits_some t b k.0 (λ i. omega (arith, c.type_inv.state i)) (rw c.accepted.ensures at c.look-seen.ensures) c.if-seen-eq0.false

@@ -1,11 +1,24 @@
 -- The check decides.
 use native.Mathlib.Omega.{arith}
-use Rattle.calls.proofs.Checking.{passed, known_read}
+use Rattle.std.proofs.lemmas.Result.{err_from_is_err_and}
+use Rattle.calls.proofs.Checking.{read_back, turned_down, passed}
 use Rattle.calls.proofs.Telling.{ready_refused, ready_told}
 use Rattle.calls.proofs.ready.Goals as goal
 
-pub returns-then-number-ne0 : goal.returns-then-number-ne0
-returns-then-number-ne0 c = ready_refused c.args.table.now c.args.state.now c.check_state-checked.ensures.0 c.if-number-ne0.true
+pub returns-in_err-read : goal.returns-in_err-read
+returns-in_err-read c =
+    let t = c.args.table.now in
+    let b = c.args.state.now in
+    let p = err_from_is_err_and c.from_residual.result c.from_residual.ensures.1 in
+    let k = turned_down t b c.check_state.ensures c.in_err-read.was in
+    rw (p.1, p.2) (ready_refused t b k.0 k.1)
+
+pub accepted-requires : goal.accepted-requires
+accepted-requires c = read_back c.args.table.now (passed c.args.table.now c.args.state.now c.check_state.ensures c.in_ok-read.was).1
 
 pub returns : goal.returns
-returns c = ready_told c.args.table.now c.args.state.now c.check_state-checked.ensures.0 c.if-number-ne0.false (λ i. omega (arith, c.type_inv.state i)) (known_read c.args.table.now c.check_state-checked.ensures.1 (passed c.args.table.now c.args.state.now c.check_state-checked.ensures.0 c.if-number-ne0.false).accepted) c.ready_set.ensures
+returns c =
+    let t = c.args.table.now in
+    let b = c.args.state.now in
+    let k = passed t b c.check_state.ensures c.in_ok-read.was in
+    ready_told t b k.0 (λ i. omega (arith, c.type_inv.state i)) (rw c.accepted.ensures at c.ready_set.ensures)

@@ -1,13 +1,24 @@
 -- The check decides, then the turn.
-use native.Mathlib.Omega.{arith}
-use Rattle.calls.proofs.Checking.{passed, known_read, work_read, work_small}
+use Rattle.std.proofs.Common.{rules}
+use Rattle.std.proofs.lemmas.Result.{err_from_is_err_and}
+use Rattle.calls.proofs.Checking.{read_back, turned_down, passed}
 use Rattle.calls.proofs.Stepping.{step_kept, step_turned}
 use Rattle.calls.proofs.step.Goals as goal
 
-pub returns-then-number-ne0 : goal.returns-then-number-ne0
-returns-then-number-ne0 c = step_kept c.args.table.now c.args.state.now c.args.activity c.check_state-checked.ensures.0 c.if-number-ne0.true
+pub returns-in_err-read : goal.returns-in_err-read
+returns-in_err-read c =
+    let t = c.args.table.now in
+    let b = c.args.state.now in
+    let p = err_from_is_err_and c.from_residual.result c.from_residual.ensures.1 in
+    let k = turned_down t b c.check_state.ensures c.in_err-read.was in
+    rw (p.1, p.2) (step_kept t b c.args.activity k.0 k.1)
+
+pub accepted-requires : goal.accepted-requires
+accepted-requires c = read_back c.args.table.now (passed c.args.table.now c.args.state.now c.check_state.ensures c.in_ok-read.was).1
 
 pub returns : goal.returns
 returns c =
-    let n = (passed c.args.table.now c.args.state.now c.check_state-checked.ensures.0 c.if-number-ne0.false).accepted in
-    step_turned c.args.table.now c.args.state.now c.args.activity c.check_state-checked.ensures.0 c.if-number-ne0.false (λ i. omega (arith, c.slice_known-1.given i)) (known_read c.args.table.now c.check_state-checked.ensures.1 n) (work_read c.args.table.now c.check_state-checked.ensures.1 n) (work_small c.args.table.now c.check_state-checked.ensures.1 n) c.turn-done.ensures
+    let t = c.args.table.now in
+    let b = c.args.state.now in
+    let k = passed t b c.check_state.ensures c.in_ok-read.was in
+    step_turned t b c.args.activity k.0 (λ i. search rules) (rw c.accepted.ensures at c.turn.ensures)

@@ -1,17 +1,14 @@
--- The greatest byte so far, and the bytes from i on, decide.
-use Prim.Native.Nat.{◌+◌}
-use native.Mathlib.Omega.{arith}
-use mathlib.Core.Path.{◌∙◌}
-use lib.ListN.{drop}
-use Rattle.encoding.specs.Bytes.{all_zero}
-use Rattle.entries.proofs.ZeroLaws.{raised, kept, turned, ended}
+-- The greatest byte is 0 where each byte is.
+use mathlib.Core.Path.{ap, ◌∙◌}
+use lib.Dec.{eqb}
+use Prim.Native.Nat.{max}
+use Rattle.std.proofs.Common.{rules, tests}
+use Rattle.std.proofs.lemmas.Iterator.{YieldsList-from_slice}
+use Rattle.std.proofs.lemmas.Iterator.Consumers.{fold_from_yields_List}
+use Rattle.entries.proofs.ZeroLaws.{greatest}
 use Rattle.entries.proofs.is_zero.Goals as goal
 
-pub loop-i-preserved-then-most-x : goal.loop-i-preserved-then-most-x
-loop-i-preserved-then-most-x c = (omega arith, raised c.loop-i.most _ (all_zero (drop (c.loop-i.i + 1) c.args.bytes.now)) c.if-most-x.true ∙ turned c.args.bytes.now c.loop-i.i c.loop-i.most c.loop-i-test.true ∙ c.loop-i.invariant.1)
-
-pub loop-i-preserved : goal.loop-i-preserved
-loop-i-preserved c = (omega arith, kept c.loop-i.most _ (all_zero (drop (c.loop-i.i + 1) c.args.bytes.now)) c.if-most-x.false ∙ turned c.args.bytes.now c.loop-i.i c.loop-i.most c.loop-i-test.true ∙ c.loop-i.invariant.1)
-
 pub returns : goal.returns
-returns c = ended c.args.bytes.now c.loop-i.i c.loop-i.most c.loop-i-test.false ∙ c.loop-i.invariant.1
+returns c =
+    ap (λ m. eqb m 0) (fold_from_yields_List _ max 0 c.fold.result c.fold.ensures.ran (YieldsList-from_slice c.args.bytes.now cc) (λ a x b q k. search (rules, tests)))
+    ∙ greatest 0 c.args.bytes.now

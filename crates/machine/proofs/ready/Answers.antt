@@ -1,6 +1,4 @@
 -- The ready set of the state's bytes.
-use Prim.Native.Nat.{ℕ}
-use lib.ListN.{replicate, length-replicate}
 use Rattle.fits.proofs.Fitting.{Fitting}
 use Rattle.machine.proofs.Typed.{fitting}
 use Rattle.machine.proofs.Values.{own_bytes, ready_is}
@@ -9,4 +7,4 @@ use Rattle.machine.proofs.ready.Goals as goal
 pub returns : goal.returns
 returns c =
     let fits : Fitting c.args.s = fitting c.args.s _ c.well_formed.1.0 in
-    ready_is c.args.table.now fits (own_bytes fits (replicate 13776 0) (length-replicate {A = ℕ} 13776 0) c.encode.ensures) c.ready-number.ensures.0 c.ready-number.ensures.1
+    ready_is c.args.table.now fits (own_bytes fits c.encode.ensures) c.ready.ensures.0 c.ready.ensures.1

@@ -1,14 +1,10 @@
--- Stopped, and a step.
-use Rattle.std.proofs.Common.{sym, ◌∙◌}
-use Rattle.moves.proofs.Standings.{over, spent}
+-- Number 17, or stopped and a step.
+use Rattle.moves.proofs.Standings.{left, turned_down}
 use Rattle.moves.proofs.Failing.{failed}
 use Rattle.moves.proofs.fail.Goals as goal
 
-pub returns-then-is_spent : goal.returns-then-is_spent
-returns-then-is_spent c = record { fails = λ p s k l w e. over w l (spent w (sym c.if-is_spent.true ∙ c.is_spent.ensures.reads s l)) }
+pub returns-in_err-unspent : goal.returns-in_err-unspent
+returns-in_err-unspent c = record { fails = λ p s k l w e. turned_down w l c.unspent.ensures c.in_err-unspent.was _ c.from_residual.ensures }
 
 pub returns : goal.returns
-returns c =
-    record {
-      fails = λ p s k l w q. failed _ l w (sym c.if-is_spent.false ∙ c.is_spent.ensures.reads s l) q c.stop.ensures c.counted.ensures c.status_answer.ensures;
-    }
+returns c = record { fails = λ p s k l w e. failed _ l w (left _ l c.unspent.ensures c.in_ok-unspent.was) e c.stop.ensures c.count.ensures }

@@ -1,14 +1,12 @@
--- What the code answers on its way to the number of a table: of its first two bytes, of one body with its marks, and of the whole scan.
-use Rattle.std.specs.Prelude.{ℕ, ◌+◌, ◌-◌, ◌≡◌, List, [], ◌∷◌, ◌++◌, cond, eqb, length, drop, replicate}
+-- What the code answers on its way to the number of a table: of its first two bytes, and of one body with its marks.
+use Rattle.std.specs.Prelude.{ℕ, ◌+◌, ◌-◌, ◌≡◌, List, [], ◌∷◌, ◌++◌, cond, eqb, length, drop, replicate, Result, Ok, Err}
 use Rattle.program.specs.Command.{is_end}
-use Rattle.program.specs.Reading.{refusal_of, readings, wholes}
-use Rattle.program.specs.Scan.{placing, left_after, fits_length, fits_bodies, scan, layout_of, no_layout}
+use Rattle.program.specs.Reading.{Reading, readings, wholes}
+use Rattle.program.specs.Refusal.{refusal_at}
+use Rattle.program.specs.Scan.{placing, left_after, fits_length, fits_bodies}
 use Rattle.program.specs.Places.{marks}
-use Rattle.program.specs.declared.reading.Reading.{Reading}
-use Rattle.program.specs.declared.reading.Reading.TheVariants.{Whole, Unknown, Cut, Outside}
-use Rattle.program.specs.declared.scan.Extent.{Extent}
-use Rattle.program.specs.declared.scan.Extent.TheVariants.{Refused, Ended}
-use Rattle.program.specs.declared.scan.Scanned.{Scanned}
+use Rattle.program.specs.declared.refusal.Refusal.{Refusal}
+use Rattle.program.specs.declared.refusal.Refusal.TheVariants.{Cut}
 
 -- Numbers 1 and 2, or 0.
 unfoldable pub opening : List ℕ → ℕ
@@ -16,30 +14,13 @@ opening t = cond (fits_length t) (cond (fits_bodies t) 0 2) 1
 
 -- Body i of n at the start of the readings, the first of which stands at `at` and has `left` commands of an ATOM before it: its bytes, or the
 -- number of its first failing command.
-unfoldable pub extent_of : ℕ → ℕ → ℕ → ℕ → List Reading → Extent
-extent_of n i left at [] = Refused (refusal_of Cut)
-extent_of n i left at (Unknown ∷ rs) = Refused (refusal_of Unknown)
-extent_of n i left at (Cut ∷ rs) = Refused (refusal_of Cut)
-extent_of n i left at (Outside ∷ rs) = Refused (refusal_of Outside)
-extent_of n i left at (Whole c size ∷ rs) =
-    let here = placing n i left c in
-    let later = extent_of n i (left_after left c) (at + size) rs in
-    cond (eqb here 0) (cond (is_end c) (Ended (at + size)) later) (Refused here)
-
--- The number of a body's extent, 0 where it has an end.
-abbrev pub number_in : Extent → ℕ
-number_in (Refused number) = number
-number_in (Ended size) = 0
-
--- The scan with its number, and the layout where that is 0.
-abbrev pub refused_by : ℕ → Scanned
-refused_by number = record { number = number; layout = no_layout }
-
-unfoldable pub scanned_of : List ℕ → Scanned
-scanned_of t =
-    let whole : Scanned = record { number = 0; layout = layout_of t } in
-    let none = refused_by (scan t) in
-    cond (eqb (scan t) 0) whole none
+unfoldable pub extent_of : ℕ → ℕ → ℕ → ℕ → List Reading → Result ℕ Refusal
+extent_of n i left at [] = Err Cut
+extent_of n i left at (Err e ∷ rs) = Err e
+extent_of n i left at (Ok w ∷ rs) =
+    let here = placing n i left w.command in
+    let later = extent_of n i (left_after left w.command) (at + w.size) rs in
+    cond (eqb here 0) (cond (is_end w.command) (Ok (at + w.size)) later) (Err (refusal_at here))
 
 -- THE MARKS
 
@@ -56,5 +37,5 @@ pub record Marking (all s : List ℕ) (i first at left : ℕ) (m : List ℕ) : T
   pub done : front ++ marks i left (wholes (readings (drop at s))) ≡ all
 
 -- Body i at the start of the code goes on with the marks, where it has an end.
-abbrev pub MarksBody : ℕ → List ℕ → ℕ → List ℕ → List ℕ → Extent → Type 0
-MarksBody i code first before after r = (all : List ℕ) (e : ℕ) → Ended e ≡ r → Marking all code i first 0 0 before → Marking all code (i + 1) first e 0 after
+abbrev pub MarksBody : ℕ → List ℕ → ℕ → List ℕ → List ℕ → Result ℕ Refusal → Type 0
+MarksBody i code first before after r = (all : List ℕ) (e : ℕ) → Ok e ≡ r → Marking all code i first 0 0 before → Marking all code (i + 1) first e 0 after

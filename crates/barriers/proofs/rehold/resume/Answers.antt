@@ -1,23 +1,10 @@
--- Number 17, the clock, and F1.
-use mathlib.Core.Path.{sym, ◌∙◌}
-use Rattle.moves.proofs.Standings.{over, spent}
-use Rattle.barriers.proofs.Reholds.{resume_fault, resumed}
+-- What is read is quiesced.
+use mathlib.Core.Path.{ap, ◌∙◌}
+use Rattle.rules.specs.Clocks.{quiesce}
+use Rattle.moves.proofs.Standings.{few}
 use Rattle.barriers.proofs.rehold.resume.Goals as goal
-
-pub returns-then-is_spent : goal.returns-then-is_spent
-returns-then-is_spent c = λ h. record { turns = λ p s l w. over w l (spent w (sym c.if-is_spent.true ∙ c.is_spent.ensures.reads s l)) }
-
-pub returns-then-is_held : goal.returns-then-is_held
-returns-then-is_held c =
-    λ h.
-    record {
-      turns =
-          λ p s l w.
-          resumed l w (c.hold_at-h.ensures h) c.is_held.ensures c.if-is_held.true (sym c.if-is_spent.false ∙ c.is_spent.ensures.reads s l) c.quiesce.ensures
-          (c.put_hold.ensures h) c.go_on.ensures;
-    }
 
 pub returns : goal.returns
 returns c =
     λ h.
-    record { turns = λ p s l w. c.fail.ensures.fails p s _ l w (resume_fault l w (c.hold_at-h.ensures h) c.is_held.ensures c.if-is_held.false) }
+    record { turns = λ p s l w. (c.rehold.ensures h).resumes p s l w (c.quiesce.ensures ∙ ap quiesce ((c.hold_at-h.ensures h).reads s l (few w))) }

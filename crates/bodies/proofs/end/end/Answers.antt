@@ -1,48 +1,23 @@
 -- A fault passed on, number 17, and the three ways of a body that ends.
-use mathlib.Core.Path.{sym, ◌∙◌}
-use borrow.Author.Tests.{ne_eqb}
-use Rattle.moves.proofs.Standings.{over, spent}
-use Rattle.bodies.proofs.Ends.{passed_on_lem, ended, reran, popped_out}
+use Rattle.std.proofs.Common.{rules}
+use Rattle.bodies.proofs.Ends.{passed_on, none_left, ends_all, ends_run, ends_body, ends_last}
 use Rattle.bodies.proofs.end.end.Goals as goal
 
 pub returns-then-faulted : goal.returns-then-faulted
-returns-then-faulted c = record { turns = λ t k s l w q. c.fail.ensures.fails _ s _ l w (passed_on_lem w (sym q ∙ c.if-faulted.true)) }
+returns-then-faulted c = passed_on c.fail.ensures c.if-faulted.true
 
-pub returns-then-is_spent : goal.returns-then-is_spent
-returns-then-is_spent c = record { turns = λ t k s l w q. over w l (spent w (sym c.if-is_spent.true ∙ c.is_spent.ensures.reads s l)) }
+pub returns-in_err-unspent : goal.returns-in_err-unspent
+returns-in_err-unspent c = none_left c.unspent.ensures c.in_err-unspent.was _ c.from_residual.ensures
 
 pub returns-then-depth-le1 : goal.returns-then-depth-le1
-returns-then-depth-le1 c =
-    record {
-      turns =
-          λ t k s l w q.
-          ended t k l w (sym c.if-is_spent.false ∙ c.is_spent.ensures.reads s l) c.depth_at-depth.ensures (sym q ∙ c.if-faulted.false) c.if-depth-le1.true c.stop.ensures
-          c.counted.ensures;
-    }
+returns-then-depth-le1 c = ends_all c.unspent.ensures c.in_ok-unspent.was c.depth_at-depth.ensures c.if-faulted.false c.if-depth-le1.true c.stop.ensures c.counted.ensures
 
-pub returns-then-f-gt1 : goal.returns-then-f-gt1
-returns-then-f-gt1 c =
-    record {
-      turns =
-          λ t k s l w q.
-          reran t k l w (sym c.if-is_spent.false ∙ c.is_spent.ensures.reads s l) c.depth_at-depth.ensures (sym q ∙ c.if-faulted.false) c.if-depth-le1.false c.frame_at-f.ensures
-          c.if-f-gt1.true c.again.ensures;
-    }
+pub returns-in-0 : goal.returns-in-0
+returns-in-0 c = ends_body c.unspent.ensures c.in_ok-unspent.was c.depth_at-depth.ensures c.if-faulted.false c.if-depth-le1.false c.frame_at-f.ensures c.in-0.is c.pop.ensures
 
-pub returns-then-f-eq0 : goal.returns-then-f-eq0
-returns-then-f-eq0 c =
-    record {
-      turns =
-          λ t k s l w q.
-          popped_out t k l w (sym c.if-is_spent.false ∙ c.is_spent.ensures.reads s l) c.depth_at-depth.ensures (sym q ∙ c.if-faulted.false) c.if-depth-le1.false c.frame_at-f.ensures
-          c.if-f-gt1.false (rw c.if-f-eq0.true) c.pop.ensures;
-    }
+pub returns-in-1 : goal.returns-in-1
+returns-in-1 c = ends_last c.unspent.ensures c.in_ok-unspent.was c.depth_at-depth.ensures c.if-faulted.false c.if-depth-le1.false c.frame_at-f.ensures c.in-1.is c.pop-in-1.ensures
 
-pub returns : goal.returns
-returns c =
-    record {
-      turns =
-          λ t k s l w q.
-          popped_out t k l w (sym c.if-is_spent.false ∙ c.is_spent.ensures.reads s l) c.depth_at-depth.ensures (sym q ∙ c.if-faulted.false) c.if-depth-le1.false c.frame_at-f.ensures
-          c.if-f-gt1.false (rw (ne_eqb _ 0 c.if-f-eq0.false)) c.pop-2.ensures;
-    }
+pub returns-in_default : goal.returns-in_default
+returns-in_default c =
+    ends_run c.unspent.ensures c.in_ok-unspent.was c.depth_at-depth.ensures c.if-faulted.false c.if-depth-le1.false c.frame_at-f.ensures (search rules) c.again.ensures

@@ -9,4 +9,4 @@ pub returns-then-in_own_finish : goal.returns-then-in_own_finish
 returns-then-in_own_finish c = lends_inside c.if-m-eq0.false c.in_own_finish.ensures c.if-in_own_finish.true
 
 pub returns : goal.returns
-returns c = lends_outside c.if-m-eq0.false c.in_own_finish.ensures c.if-in_own_finish.false c.lend_fault-lending.ensures
+returns c = lends_outside c.if-m-eq0.false c.in_own_finish.ensures c.if-in_own_finish.false c.lend_fault.ensures

@@ -1,16 +1,22 @@
 -- A search over the frames below the top.
-use native.Mathlib.Omega.{arith}
-use Rattle.bodies.proofs.Lending.{own_start, own_found, own_passed, own_none}
+use Rattle.std.proofs.Common.{◌≡◌, ◌<◌, ◌-◌, true, false, arith, refl, rules}
+use Rattle.std.proofs.lemmas.Iterator.{cases_from_any, YieldsList-from_range}
+use Rattle.program.specs.Bodies.{program_of}
+use Rattle.rules.specs.State.{act}
+use Rattle.rules.specs.Tree.{finishes, in_own_finish}
+use Rattle.moves.proofs.Searching.{some_any}
+use Rattle.bodies.proofs.Lending.{tested}
 use Rattle.bodies.proofs.lend.in_own_finish.Goals as goal
 
-pub loop-d-init : goal.loop-d-init
-loop-d-init c = (omega arith, own_start)
-
-pub returns-then-is_finish : goal.returns-then-is_finish
-returns-then-is_finish c = own_found c.depth_at-depth.ensures c.loop-d-test.true c.frame_at-f.ensures c.is_finish.ensures c.if-is_finish.true
-
-pub loop-d-preserved : goal.loop-d-preserved
-loop-d-preserved c = (omega arith, own_passed c.depth_at-depth.ensures c.loop-d-test.true c.frame_at-f.ensures c.is_finish.ensures c.loop-d.invariant.1 c.if-is_finish.false)
-
 pub returns : goal.returns
-returns c = own_none c.depth_at-depth.ensures c.loop-d.invariant.0 c.loop-d-test.false c.loop-d.invariant.1
+unfolding in_own_finish finishes
+returns c =
+    record {
+      reads =
+          λ s l j w.
+          let p = program_of c.args.table.now.bytes.now in
+          let a = act s c.args.i in
+          some_any (a.depth - 1) (finishes p a) _
+          (cases_from_any _ _ _ (λ x. x < a.depth - 1 → true ≡ finishes p a x) (λ x. x < a.depth - 1 → false ≡ finishes p a x) c.any.ensures.ran (YieldsList-from_range 0 _ (a.depth - 1) refl (let e = c.depth_at.ensures.reads s l j in omega (arith, c.saturating_sub-above.ensures)))
+          (λ x q k h. search (rules, tested)) (λ x q k. (search rules, λ h. search (rules, tested))));
+    }

@@ -1,22 +1,25 @@
 -- One name after the other.
 use mathlib.Core.Path.{sym, ◌∙◌}
 use Rattle.bodies.proofs.Lending.{lend_none, lend_skip, lend_free, lend_live, lend_quiet, lend_done}
+use Rattle.bodies.proofs.lend.lend_fault.Goals.{then-lends+in-Live, then-lends+in-Quiesced, else-lends}
 use Rattle.bodies.proofs.lend.lend_fault.Goals as goal
 
 pub loop-k-init : goal.loop-k-init
 loop-k-init c = lend_none
 
-pub loop-k-preserved-then-is_live : goal.loop-k-preserved-then-is_live
-loop-k-preserved-then-is_live c = lend_live c.loop-k.invariant c.loop-k-test.true (sym c.lends.ensures ∙ c.if-lends.true) (c.hold_at-h.ensures c.loop-k-test.true) (sym c.is_live.ensures ∙ c.if-is_live.true)
-
-pub loop-k-preserved-then-is_held : goal.loop-k-preserved-then-is_held
-loop-k-preserved-then-is_held c = lend_quiet c.loop-k.invariant c.loop-k-test.true (sym c.lends.ensures ∙ c.if-lends.true) (c.hold_at-h.ensures c.loop-k-test.true) (sym c.is_live.ensures ∙ c.if-is_live.false) (sym c.is_held.ensures ∙ c.if-is_held.true)
-
-pub returns-then-lends : goal.returns-then-lends
-returns-then-lends c = lend_free c.loop-k.invariant c.loop-k-test.true (sym c.lends.ensures ∙ c.if-lends.true) (c.hold_at-h.ensures c.loop-k-test.true) (sym c.is_held.ensures ∙ c.if-is_held.false)
-
 pub loop-k-preserved : goal.loop-k-preserved
-loop-k-preserved c = lend_skip c.loop-k.invariant c.loop-k-test.true (sym c.lends.ensures ∙ c.if-lends.false)
+loop-k-preserved c =
+    let before = c.loop-k.invariant in
+    let low = c.loop-k-test.true in
+    let lent = sym c.lends.ensures in
+    elim c.if-lends.branch [
+      | then-lends+in-Live w ↦ rw w.found-is (lend_live before low (lent ∙ w.if-lends.true) w.hold_at.ensures w.in-Live.is)
+      | then-lends+in-Quiesced w ↦ rw w.found-is (lend_quiet before low (lent ∙ w.if-lends.true) w.hold_at.ensures w.in-Quiesced.is)
+      | else-lends w ↦ rw w.found-is (lend_skip before low (lent ∙ w.if-lends.false))
+    ]
+
+pub returns-in-Free : goal.returns-in-Free
+returns-in-Free c = lend_free c.loop-k.invariant c.loop-k-test.true (sym c.lends.ensures ∙ c.if-lends.true) c.hold_at.ensures c.in-Free.is
 
 pub returns : goal.returns
 returns c = lend_done c.loop-k.invariant c.loop-k-test.false

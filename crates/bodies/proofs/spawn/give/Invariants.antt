@@ -1,5 +1,4 @@
 -- One name after the other.
-use Prim.Native.Nat.{◌-◌}
 use mathlib.Core.Path.{◌≡◌}
 use lib.ListN.{length}
 use Rattle.bodies.proofs.Giving.{GivesTo}
@@ -7,6 +6,3 @@ use Rattle.bodies.proofs.spawn.give.Given as goal
 
 abbrev pub invariant-loop-k : goal.invariant-loop-k
 invariant-loop-k l = (length l.state ≡ length l.initial.state) × GivesTo l.m l.k l.initial.state l.state l.i l.n
-
-abbrev pub decreases-loop-k : goal.decreases-loop-k
-decreases-loop-k l = 8 - l.k

@@ -1,10 +1,11 @@
 -- The child, or the fault.
-use mathlib.Core.Path.{◌∙◌}
-use Rattle.bodies.proofs.Spawns.{met, met_number}
+use mathlib.Core.Path.{ap, ◌∙◌}
+use Rattle.moves.specs.Moves.{fault_in}
+use Rattle.bodies.proofs.Spawns.{met}
 use Rattle.bodies.proofs.spawn.spawn.Goals as goal
 
-pub returns-then-f-eq0 : goal.returns-then-f-eq0
-returns-then-f-eq0 c = record { turns = λ k s l w. c.fork.ensures.does _ s l w (met k l w c.async_fault-f.ensures ∙ c.if-f-eq0.true) }
+pub returns-in-None : goal.returns-in-None
+returns-in-None c = record { turns = λ s l w. c.fork.ensures.does _ s l w (met c.args.table.now.known l w c.async_fault.ensures ∙ ap fault_in c.in-None.is) }
 
-pub returns : goal.returns
-returns c = record { turns = λ k s l w. c.fail.ensures.fails _ s _ l w (met_number k l w c.async_fault-f.ensures c.if-f-eq0.false c.fault_of.ensures) }
+pub returns-in-Some : goal.returns-in-Some
+returns-in-Some c = record { turns = λ s l w. c.fail.ensures.fails _ s _ l w (met c.args.table.now.known l w c.async_fault.ensures ∙ ap fault_in c.in-Some.is) }

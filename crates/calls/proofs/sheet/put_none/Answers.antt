@@ -1,13 +1,9 @@
--- The length decides.
+-- There is room: zeros.
 use mathlib.Core.Path.{◌∙◌}
-use borrow.Author.Tests.{eq-eqb, ne_eqb}
+use borrow.Author.Tests.{eq-eqb}
 use Rattle.calls.specs.Calls.{fits_sheet}
 use Rattle.calls.proofs.sheet.put_none.Goals as goal
 
 pub returns-then-out-eq1024 : goal.returns-then-out-eq1024
 unfolding fits_sheet
-returns-then-out-eq1024 c = c.put_zeros.ensures ∙ rw (eq-eqb _ 1024 c.if-out-eq1024.true, c.if-out-eq1024.true)
-
-pub returns-else-out-eq1024 : goal.returns-else-out-eq1024
-unfolding fits_sheet
-returns-else-out-eq1024 c = rw (ne_eqb _ 1024 c.if-out-eq1024.false)
+returns-then-out-eq1024 c = c.fill.ensures.after (λ y e. e) ∙ rw (eq-eqb _ 1024 c.if-out-eq1024.true, c.if-out-eq1024.true)

@@ -1,10 +1,6 @@
 -- The first i rows are written.
-use Prim.Native.Nat.{◌-◌}
 use Rattle.calls.proofs.Rows.{Rowed}
 use Rattle.calls.proofs.sheet.put_rows.Given as goal
 
 abbrev pub invariant-loop-i : goal.invariant-loop-i
 invariant-loop-i l = Rowed l.state l.out l.i
-
-abbrev pub decreases-loop-i : goal.decreases-loop-i
-decreases-loop-i l = 64 - l.i

@@ -1,22 +1,19 @@
--- Behind the head the first i activities are written.
+-- One field after the other.
 use native.Mathlib.Omega.{arith}
-use mathlib.Core.Path.{◌≡◌, refl}
-use lib.ListN.{length}
-use Rattle.encoding.specs.Encode.{encode_activity, encode_head, encode_state}
-use Rattle.encoding.proofs.FieldLaws.{none_yet, put}
-use Rattle.encoding.proofs.PartLaws.{behind_none, behind_more, behind_done}
+use mathlib.Core.Path.{ap, ◌∙◌}
+use lib.ListN.{replicate}
+use Rattle.encoding.specs.Bytes.{bytes_of, encode_each}
+use Rattle.encoding.specs.Encode.{encode_accumulator, encode_activity, encode_state}
+use Rattle.encoding.proofs.FieldLaws.{none_yet, store, put_as, put_of, all}
 use Rattle.encoding.proofs.fields.put_state.Goals as goal
 
-pub loop-i-init : goal.loop-i-init
-loop-i-init c = behind_none 464 (encode_head c.args.s) encode_activity c.args.s.acts 208 64 _ (put {l = c.args.out.now} 464 464 c.put_head.new.out _ (none_yet _ 13776 c.requires) (omega arith) refl c.put_head.auto.out c.put_head.ensures)
-
-pub loop-i-preserved : goal.loop-i-preserved
-loop-i-preserved c =
-    let many : length c.args.s.acts ≡ 64 = c.well_formed.0.1.1.1.0.1.0.1 in
-    behind_more 464 (encode_head c.args.s) encode_activity c.args.s.acts 208 64 c.loop-i.i _ _ c.put_activity.new.out c.loop-i.invariant many (omega (arith, c.loop-i-test.true)) c.put_activity.auto.out c.put_activity.ensures
-
 pub returns : goal.returns
-unfolding encode_state
+unfolding encode_state bytes_of
 returns c =
-    let many : length c.args.s.acts ≡ 64 = c.well_formed.0.1.1.1.0.1.0.1 in
-    behind_done 464 (encode_head c.args.s) encode_activity c.args.s.acts 208 64 c.loop-i.i _ c.loop-i.invariant many c.loop-i-test.false
+    let s = c.args.s in
+    let a = store s.accumulators (store s.clocks (store s.activities (store 1 (none_yet c.args.out.now 13776 c.requires) (omega arith)) (omega arith)) (omega arith)) (omega arith) in
+    let b = put_as 4 c.put.new.out (bytes_of 4 s.steps) a (omega arith) c.put.auto.out (c.put.ensures ∙ ap (bytes_of 4) c.from.ensures) in
+    let d = put_of 8 (λ k. replicate k 0) c.put_zeros.new.out b (omega arith) c.put_zeros.auto.out c.put_zeros.ensures in
+    let e = put_as 64 c.put_each.new.out (encode_each (bytes_of 4) s.cells) d (omega arith) c.put_each.auto.out c.put_each.ensures in
+    let f = put_as 384 c.put_each-2.new.out (encode_each encode_accumulator s.accs) e (omega arith) c.put_each-2.auto.out c.put_each-2.ensures in
+    all (put_as 13312 c.put_each-3.new.out (encode_each encode_activity s.acts) f (omega arith) c.put_each-3.auto.out c.put_each-3.ensures)

@@ -1,17 +1,15 @@
 -- Field by field.
 use native.Mathlib.Omega.{arith}
-use mathlib.Core.Path.{refl}
 use Rattle.encoding.specs.Decode.{state_of}
-use Rattle.encoding.proofs.FieldLaws.{sized}
 use Rattle.encoding.proofs.Passed.{state_passes}
 use Rattle.encoding.proofs.fields.state_at.Goals as goal
 
-pub overflow_cast-steps : goal.overflow_cast-steps
-overflow_cast-steps c = omega (arith, c.number-steps.ensures, (state_passes c.args.bytes.now c.requires.bytes_value).steps)
+pub read_each-requires-clause-bytes_value : goal.read_each-requires-clause-bytes_value
+read_each-requires-clause-bytes_value c = (state_passes c.args.bytes.now c.requires.bytes_value).acts
 
-pub activities_at-acts-requires : goal.activities_at-acts-requires
-activities_at-acts-requires c = record { bytes_len = sized c.args.bytes.now 464 13312 13312 refl (omega arith); bytes_value = (state_passes c.args.bytes.now c.requires.bytes_value).acts }
+pub overflow_cast-result : goal.overflow_cast-result
+overflow_cast-result c = omega (arith, c.at.ensures, (state_passes c.args.bytes.now c.requires.bytes_value).steps)
 
 pub returns : goal.returns
 unfolding state_of
-returns c = rw (c.number-steps.ensures, c.cells_at-cells.ensures, c.accumulators_at-accs.ensures, c.activities_at-acts.ensures)
+returns c = rw (c.read_each.ensures, c.cells_at.ensures, c.accumulators_at.ensures, c.at.ensures)

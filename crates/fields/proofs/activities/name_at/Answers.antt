@@ -1,7 +1,6 @@
 -- One byte.
-use native.Mathlib.Omega.{arith}
 use Rattle.fields.proofs.Own.{name_read}
 use Rattle.fields.proofs.activities.name_at.Goals as goal
 
 pub returns : goal.returns
-returns c = λ h. record { reads = λ s l j. name_read l j h c.get1.ensures (omega arith) }
+returns c = λ h. record { reads = λ s l j. name_read l j h c.get_own.ensures }

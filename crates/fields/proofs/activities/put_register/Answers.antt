@@ -6,4 +6,4 @@ use Rattle.fields.proofs.Own.{register_put}
 use Rattle.fields.proofs.activities.put_register.Goals as goal
 
 pub returns : goal.returns
-returns c = record { writes = λ s l j. own_put l j 0 4 _ c.put4.ensures (omega arith) (omega arith) (register_put (act s _) _) (fine_register (mine l j) (omega arith)) }
+returns c = record { writes = λ s l j. own_put l j 0 4 _ c.put_own.ensures (omega arith) (omega arith) (register_put (act s _) _) (fine_register (mine l j) (omega arith)) }

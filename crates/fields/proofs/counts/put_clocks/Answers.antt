@@ -4,4 +4,4 @@ use Rattle.fields.proofs.Head.{clocks_put}
 use Rattle.fields.proofs.counts.put_clocks.Goals as goal
 
 pub returns : goal.returns
-returns c = record { writes = λ s l. clocks_put l c.put1.ensures (omega arith) }
+returns c = record { writes = λ s l. clocks_put l c.put.ensures (omega arith) }

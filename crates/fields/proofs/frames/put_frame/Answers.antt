@@ -4,8 +4,8 @@ use Rattle.fields.proofs.Stands.{lent_length}
 use Rattle.fields.proofs.Own.{frame_write}
 use Rattle.fields.proofs.frames.put_frame.Goals as goal
 
-pub returns-then-state-ne13776 : goal.returns-then-state-ne13776
-returns-then-state-ne13776 c = λ h. record { writes = λ s l j. absurd (c.if-state-ne13776.true (lent_length l)) }
+pub returns-then-d-lt16 : goal.returns-then-d-lt16
+returns-then-d-lt16 c = λ h. record { writes = λ s l j. frame_write l j h _ c.put.new.out c.put.ensures (omega arith) }
 
-pub returns : goal.returns
-returns c = λ h. record { writes = λ s l j. frame_write l j h _ c.put_frame.new.out c.put_frame.ensures (omega arith) }
+pub returns-else-state-eq13776 : goal.returns-else-state-eq13776
+returns-else-state-eq13776 c = λ h. record { writes = λ s l j. absurd (omega (arith, lent_length l)) }

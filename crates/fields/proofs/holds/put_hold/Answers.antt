@@ -4,8 +4,8 @@ use Rattle.fields.proofs.Stands.{lent_length}
 use Rattle.fields.proofs.Own.{hold_write}
 use Rattle.fields.proofs.holds.put_hold.Goals as goal
 
-pub returns-then-state-ne13776 : goal.returns-then-state-ne13776
-returns-then-state-ne13776 c = λ h. record { writes = λ s l j. absurd (c.if-state-ne13776.true (lent_length l)) }
+pub returns-then-k-lt8 : goal.returns-then-k-lt8
+returns-then-k-lt8 c = λ h. record { writes = λ s l j. hold_write l j h _ c.put.new.out c.put.ensures (omega arith) }
 
-pub returns : goal.returns
-returns c = λ h. record { writes = λ s l j. hold_write l j h _ c.put_hold.new.out c.put_hold.ensures (omega arith) }
+pub returns-else-state-eq13776 : goal.returns-else-state-eq13776
+returns-else-state-eq13776 c = λ h. record { writes = λ s l j. absurd (omega (arith, lent_length l)) }

@@ -1,13 +1,18 @@
--- The number tells whether the length is written.
-use mathlib.Core.Path.{sym, ◌∙◌}
-use borrow.Author.Tests.{eq-eqb, ne_eqb}
-use Rattle.host.specs.Lists.{size_after}
+-- The number, the table and the length by what the list's call answers.
+use mathlib.Core.Path.{ap, ◌∙◌}
+use lib.ListN.{length}
+use Rattle.std.specs.Result.{result_unwrap_or}
+use Rattle.program.specs.Refusal.{told}
+use Rattle.host.proofs.ListNumbers.{built_told, built_left}
 use Rattle.host.proofs.lists.stepmachine_build.Goals as goal
 
-pub returns-then-built-eq0 : goal.returns-then-built-eq0
-unfolding size_after
-returns-then-built-eq0 c = record { value = c.build-built.ensures.number_value; table_after = c.build-built.ensures.table_after; size_after = rw (eq-eqb _ 0 (sym c.build-built.ensures.number_value ∙ c.if-built-eq0.true)) c.build-built.ensures.length_value }
-
-pub returns-else-built-eq0 : goal.returns-else-built-eq0
-unfolding size_after
-returns-else-built-eq0 c = record { value = c.build-built.ensures.number_value; table_after = c.build-built.ensures.table_after; size_after = rw (ne_eqb _ 0 (λ z. c.if-built-eq0.false (c.build-built.ensures.number_value ∙ z))) }
+pub returns : goal.returns
+returns c =
+    let entries = c.args.entries.now in
+    let room = length c.args.table.now in
+    let built = c.build-built.ensures in
+    record {
+      value = c.number_of.ensures ∙ ap told built.value ∙ built_told entries room;
+      table_after = built.table_after;
+      size_after = c.unwrap_or.ensures ∙ ap (λ r. result_unwrap_or r c.args.size.now) built.value ∙ built_left entries room c.args.size.now;
+    }

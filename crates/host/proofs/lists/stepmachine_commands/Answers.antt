@@ -1,13 +1,18 @@
--- The number tells whether how many were found is written.
-use mathlib.Core.Path.{sym, ◌∙◌}
-use borrow.Author.Tests.{eq-eqb, ne_eqb}
-use Rattle.host.specs.Lists.{found_after}
+-- The number, the entries and how many they are by what the table's call answers.
+use mathlib.Core.Path.{ap, ◌∙◌}
+use lib.ListN.{length}
+use Rattle.std.specs.Result.{result_unwrap_or}
+use Rattle.program.specs.Refusal.{told}
+use Rattle.host.proofs.ListNumbers.{listed_told, listed_left}
 use Rattle.host.proofs.lists.stepmachine_commands.Goals as goal
 
-pub returns-then-listed-eq0 : goal.returns-then-listed-eq0
-unfolding found_after
-returns-then-listed-eq0 c = record { value = c.list-listed.ensures.number_value; entries_after = c.list-listed.ensures.entries_after; found_after = rw (eq-eqb _ 0 (sym c.list-listed.ensures.number_value ∙ c.if-listed-eq0.true)) c.list-listed.ensures.count_value }
-
-pub returns-else-listed-eq0 : goal.returns-else-listed-eq0
-unfolding found_after
-returns-else-listed-eq0 c = record { value = c.list-listed.ensures.number_value; entries_after = c.list-listed.ensures.entries_after; found_after = rw (ne_eqb _ 0 (λ z. c.if-listed-eq0.false (c.list-listed.ensures.number_value ∙ z))) }
+pub returns : goal.returns
+returns c =
+    let table = c.args.table.now in
+    let room = length c.args.entries.now in
+    let listed = c.list-listed.ensures in
+    record {
+      value = c.number_of.ensures ∙ ap told listed.value ∙ listed_told table room;
+      entries_after = listed.entries_after;
+      found_after = c.unwrap_or.ensures ∙ ap (λ r. result_unwrap_or r c.args.found.now) listed.value ∙ listed_left table room c.args.found.now;
+    }

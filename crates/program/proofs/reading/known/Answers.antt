@@ -1,25 +1,20 @@
--- Each answer is the definition's at the tests that led to it.
-use Prim.Native.Nat.{◌+◌}
-use native.Mathlib.Numerals.{add-one}
+-- Each answer is the definition's at the test that led to it.
 use mathlib.Core.Path.{sym, ap, ◌∙◌}
-use lib.ListN.{drop}
-use Rattle.program.specs.Command.{word}
-use Rattle.program.proofs.RangeLaws.{tail_part, bare_none, bare_unknown, bare_known}
+use Prim.Native.Nat.{◌+◌}
+use Rattle.std.specs.Prelude.{Option}
+use Rattle.std.specs.Option.{unwrap_or}
+use Rattle.program.specs.declared.command.Command.{Command}
+use Rattle.program.specs.declared.command.Command.TheVariants.{End}
+use Rattle.program.proofs.RangeLaws.{made_at, bare_none, bare_made}
 use Rattle.program.proofs.reading.known.Goals as goal
 
 pub returns-then-code-offset : goal.returns-then-code-offset
-returns-then-code-offset c = let a = c.args in bare_none a.code.now a.offset c.if-code-offset.true
-
-pub returns-then-op-ge-COMMANDS : goal.returns-then-op-ge-COMMANDS
-returns-then-op-ge-COMMANDS c =
-    let a = c.args in
-    bare_unknown a.code.now a.offset c.if-code-offset.false (rw (← c.wide-op.ensures.0) c.if-op-ge-COMMANDS.true)
+returns-then-code-offset c = bare_none c.args.code.now c.args.offset c.if-code-offset.true
 
 pub returns : goal.returns
 returns c =
-    let a = c.args in
-    let rest = tail_part a.code.now (a.offset + 1) in
-    bare_known a.code.now a.offset c.if-code-offset.false c.wide-op.ensures.0 c.if-op-ge-COMMANDS.false
-    (rw (← add-one a.offset)
-    (c.command_of.ensures (drop (a.offset + 1) a.code.now) (sym (c.byte_at-x.ensures ∙ rw rest)) (sym (c.byte_at-y.ensures ∙ rw rest))
-    (λ put. sym (c.value_of.ensures put ∙ ap word rest))))
+    let s = c.args.code.now in
+    let at = c.args.offset in
+    c.unwrap_or.ensures
+    ∙ ap (λ (m : Option Command). unwrap_or m End) (made_at s _ (at + 1) c.command_of.ensures c.first_four-operands.ensures)
+    ∙ sym (bare_made s at c.if-code-offset.false)

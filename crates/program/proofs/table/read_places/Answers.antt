@@ -1,47 +1,41 @@
 -- The numbers come in checking order, and saturated counts pass the same limits as the counts themselves.
-use mathlib.Core.Path.{◌≡◌, sym, ap, ◌∙◌}
-use mathlib.Core.List.{List}
-use Prim.Native.Nat.{ℕ}
+use mathlib.Core.Path.{sym, ap, ◌∙◌}
 use native.Mathlib.Omega.{arith}
+use Rattle.std.proofs.lemmas.Result.{err_from_is_err_and}
+use Rattle.program.specs.Inner.Counting.{over_counts}
 use Rattle.program.specs.Scan.{scan, layout_of}
 use Rattle.program.specs.declared.scan.Layout.{Layout}
-use Rattle.program.specs.declared.scan.Scanned.{Scanned}
-use Rattle.program.proofs.TableLaws.{scanned_number, scanned_layout, table_unread, table_over, table_counted}
+use Rattle.program.proofs.Refusals.{answered_ok}
+use Rattle.program.proofs.TableLaws.{table_unread, table_over, table_counted}
 use Rattle.program.proofs.WalkLaws.{counts_small}
-use Rattle.program.specs.Inner.Counting.{Small}
+use Rattle.program.specs.Inner.Counting.{activityCount}
 use Rattle.program.proofs.table.read_places.Goals as goal
 
-pub returns-then-number-ne0 : goal.returns-then-number-ne0
-returns-then-number-ne0 c =
-    let table : List ℕ = c.args.table.now in
-    let number-here : scan table ≡ c.scan-scanned.result.number = sym (ap (λ (s : Scanned). s.number) c.scan-scanned.ensures.value ∙ scanned_number table) in
-    record { value = c.refused_with.ensures ∙ table_unread table number-here c.if-number-ne0.true; marks_after = c.scan-scanned.ensures.marks_after }
+pub returns-in_err-layout : goal.returns-in_err-layout
+returns-in_err-layout c =
+    let p = err_from_is_err_and c.from_residual.result c.from_residual.ensures.1 in
+    record { value = rw (p.1, p.2) (table_unread c.args.table.now (sym c.scan.ensures.value ∙ c.in_err-layout.was)); marks_after = c.scan.ensures.marks_after }
 
-pub counts-totals-requires : goal.counts-totals-requires
-counts-totals-requires c =
-    let table : List ℕ = c.args.table.now in
-    let number-here : scan table ≡ c.scan-scanned.result.number = sym (ap (λ (s : Scanned). s.number) c.scan-scanned.ensures.value ∙ scanned_number table) in
-    let read_here : scan table ≡ 0 = number-here ∙ c.if-number-ne0.false in
-    let layout-here : c.scan-scanned.result.layout ≡ layout_of table = ap (λ (s : Scanned). s.layout) c.scan-scanned.ensures.value ∙ scanned_layout table read_here in
-    (read_here, ap (λ (l : Layout). l.starts) layout-here)
+pub count_table-totals-requires : goal.count_table-totals-requires
+count_table-totals-requires c =
+    let t = c.args.table.now in
+    let k = answered_ok (scan t) (layout_of t) (sym c.scan.ensures.value ∙ c.in_ok-layout.was) in
+    (k.0, ap (λ (l : Layout). l.starts) k.1)
 
-pub returns-then-above-ne0 : goal.returns-then-above-ne0
-returns-then-above-ne0 c =
-    let table : List ℕ = c.args.table.now in
-    let number-here : scan table ≡ c.scan-scanned.result.number = sym (ap (λ (s : Scanned). s.number) c.scan-scanned.ensures.value ∙ scanned_number table) in
-    let read_here : scan table ≡ 0 = number-here ∙ c.if-number-ne0.false in
-    record { value = c.refused_with-then-above-ne0.ensures ∙ table_over table read_here c.counts-totals.result c.counts-totals.ensures (sym c.over-above.ensures) c.if-above-ne0.true; marks_after = c.scan-scanned.ensures.marks_after }
+pub returns-in_err-over : goal.returns-in_err-over
+returns-in_err-over c =
+    let t = c.args.table.now in
+    let k = answered_ok (scan t) (layout_of t) (sym c.scan.ensures.value ∙ c.in_ok-layout.was) in
+    let p = err_from_is_err_and c.from_residual-in_err-over.result c.from_residual-in_err-over.ensures.1 in
+    record { value = rw (p.1, p.2) (table_over t k.0 c.count_table-totals.result c.count_table-totals.ensures (sym c.over.ensures ∙ c.in_err-over.was)); marks_after = c.scan.ensures.marks_after }
 
 pub overflow_add-result : goal.overflow_add-result
-unfolding Small
 overflow_add-result c =
-    let table : List ℕ = c.args.table.now in
-    let s = counts_small table 0 c.counts-totals.result c.counts-totals.ensures 1 (omega arith) in omega arith
+    let s = counts_small c.args.table.now 0 c.count_table-totals.result c.count_table-totals.ensures activityCount in omega arith
 
 pub returns : goal.returns
 returns c =
-    let table : List ℕ = c.args.table.now in
-    let number-here : scan table ≡ c.scan-scanned.result.number = sym (ap (λ (s : Scanned). s.number) c.scan-scanned.ensures.value ∙ scanned_number table) in
-    let read_here : scan table ≡ 0 = number-here ∙ c.if-number-ne0.false in
-    let layout-here : c.scan-scanned.result.layout ≡ layout_of table = ap (λ (s : Scanned). s.layout) c.scan-scanned.ensures.value ∙ scanned_layout table read_here in
-    record { value = rw layout-here (table_counted table read_here c.counts-totals.result c.counts-totals.ensures (sym c.over-above.ensures ∙ c.if-above-ne0.false)); marks_after = c.scan-scanned.ensures.marks_after }
+    let t = c.args.table.now in
+    let k = answered_ok (scan t) (layout_of t) (sym c.scan.ensures.value ∙ c.in_ok-layout.was) in
+    let z = answered_ok (over_counts c.count_table-totals.result) (tt {0}) (sym c.over.ensures ∙ c.in_ok-over.was) in
+    record { value = rw k.1 (table_counted t k.0 c.count_table-totals.result c.count_table-totals.ensures z.0); marks_after = c.scan.ensures.marks_after }

@@ -4,6 +4,3 @@ use Rattle.turns.proofs.sheet.sheet_row.Given as goal
 
 abbrev pub invariant-loop-n : goal.invariant-loop-n
 invariant-loop-n l = Entered l.state l.i l.row l.n
-
-abbrev pub decreases-loop-n : goal.decreases-loop-n
-decreases-loop-n l = l.n

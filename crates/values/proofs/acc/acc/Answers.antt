@@ -1,11 +1,11 @@
 -- Number 17 twice, and the accumulator, the count and the name.
-use Rattle.std.proofs.Common.{sym, refl, ◌∙◌}
-use Rattle.moves.proofs.Standings.{over, spent}
+use Rattle.std.proofs.Common.{refl}
+use Rattle.moves.proofs.Standings.{left, over, turns_down}
 use Rattle.values.proofs.Accs.{full, made}
 use Rattle.values.proofs.acc.acc.Goals as goal
 
-pub returns-then-is_spent : goal.returns-then-is_spent
-returns-then-is_spent c = λ h. record { turns = λ p s l w. over w l (spent w (sym c.if-is_spent.true ∙ c.is_spent.ensures.reads s l)) }
+pub returns-in_err-unspent : goal.returns-in_err-unspent
+returns-in_err-unspent c = λ h. turns_down c.unspent.ensures c.in_err-unspent.was _ c.from_residual.ensures
 
 pub returns-then-made-ge16 : goal.returns-then-made-ge16
 returns-then-made-ge16 c =
@@ -13,7 +13,7 @@ returns-then-made-ge16 c =
     record {
       turns =
           λ p s l w.
-          over w l (full l w (sym c.if-is_spent.false ∙ c.is_spent.ensures.reads s l) (rw (c.accumulators_of-made.ensures.reads s l) at c.if-made-ge16.true));
+          over w l (full l w (left _ l c.unspent.ensures c.in_ok-unspent.was) (rw (c.accumulators_of-made.ensures.reads s l) at c.if-made-ge16.true));
     }
 
 pub returns : goal.returns
@@ -22,6 +22,6 @@ returns c =
     record {
       turns =
           λ p s l w.
-          made l w (sym c.if-is_spent.false ∙ c.is_spent.ensures.reads s l) h (c.accumulators_of-made.ensures.reads s l) c.if-made-ge16.false refl c.operator_of.ensures
+          made l w (left _ l c.unspent.ensures c.in_ok-unspent.was) h (c.accumulators_of-made.ensures.reads s l) c.if-made-ge16.false refl c.operator_of.ensures
           c.new_accumulator-fresh.ensures c.put_accumulator.ensures refl c.put_accumulators.ensures refl c.put_name.ensures c.go_on.ensures;
     }

@@ -1,10 +1,7 @@
 -- One command after the other.
-use Rattle.std.proofs.Common.{◌≡◌, ◌+◌, ◌-◌, length}
+use Rattle.std.proofs.Common.{◌+◌}
 use Rattle.values.proofs.Atoms.{TouchesTo}
 use Rattle.values.proofs.atom.touch_each.Given as goal
 
 abbrev pub invariant-loop-j : goal.invariant-loop-j
-invariant-loop-j l = (length l.state ≡ length l.initial.state) × TouchesTo l.j l.code (l.offset + 2) l.k l.initial.state l.state l.i
-
-abbrev pub decreases-loop-j : goal.decreases-loop-j
-decreases-loop-j l = l.k - l.j
+invariant-loop-j l = TouchesTo l.j l.code (l.offset + 2) l.k l.initial.state l.state l.i

@@ -1,13 +1,9 @@
--- The register, and on.
-use Rattle.std.proofs.Common.{sym, ◌∙◌}
-use Rattle.moves.proofs.Standings.{over, spent}
-use Rattle.values.proofs.Touching.{fetched}
+-- The cell is touched.
+use Rattle.std.proofs.Common.{refl, rules}
+use Rattle.program.specs.Command.{uses_cell}
+use Rattle.program.specs.declared.command.Command.TheVariants.{Fetch}
 use Rattle.values.proofs.cells.fetch.Goals as goal
 
-pub returns-then-is_spent : goal.returns-then-is_spent
-returns-then-is_spent c = λ h. record { turns = λ p s l w. over w l (spent w (sym c.if-is_spent.true ∙ c.is_spent.ensures.reads s l)) }
-
 pub returns : goal.returns
-returns c =
-    λ h.
-    record { turns = λ p s l w. fetched l w (sym c.if-is_spent.false ∙ c.is_spent.ensures.reads s l) (c.fetch_cell.ensures h) c.go_on.ensures }
+unfolding uses_cell
+returns c = λ h. c.on_cell.ensures.turns (Fetch c.args.d) refl (λ d t. search rules)

@@ -1,24 +1,16 @@
 -- The fault, number 17, and the register.
-use Rattle.std.proofs.Common.{sym, refl, ◌∙◌}
+use Rattle.std.proofs.Common.{refl}
 use Rattle.rules.specs.Faults.{fault_for}
-use Rattle.moves.proofs.Standings.{fault_here, over, spent}
-use Rattle.values.proofs.Owns.{unread, bound_here, was_reset}
+use Rattle.moves.proofs.Standings.{fault_here, left, turns_down}
+use Rattle.values.proofs.Owns.{unread, was_reset}
 use Rattle.values.proofs.reset.reset.Goals as goal
 
-pub returns-then-fault-ne0 : goal.returns-then-fault-ne0
+pub returns-in-Err : goal.returns-in-Err
 unfolding fault_for
-returns-then-fault-ne0 c =
-    λ h.
-    record { turns = λ p s l w. unread l w h c.read_fault-fault.ensures (fault_here w refl) c.if-fault-ne0.true c.fault_of.ensures c.fail.ensures }
+returns-in-Err c = λ h. record { turns = λ p s l w. unread l w h c.own_number.ensures (fault_here w refl) c.in-Err.is c.fail.ensures }
 
-pub returns-then-is_spent : goal.returns-then-is_spent
-returns-then-is_spent c = λ h. record { turns = λ p s l w. over w l (spent w (sym c.if-is_spent.true ∙ c.is_spent.ensures.reads s l)) }
-
-pub returns-then-entry-eq0 : goal.returns-then-entry-eq0
-unfolding fault_for
-returns-then-entry-eq0 c =
-    λ h.
-    record { turns = λ p s l w. absurd (bound_here l w h c.read_fault-fault.ensures (fault_here w refl) c.if-fault-ne0.false c.name_at-entry.ensures c.if-entry-eq0.true) }
+pub returns-in_err-unspent : goal.returns-in_err-unspent
+returns-in_err-unspent c = λ h. turns_down c.unspent.ensures c.in_err-unspent.was _ c.from_residual.ensures
 
 pub returns : goal.returns
 returns c =
@@ -26,6 +18,5 @@ returns c =
     record {
       turns =
           λ p s l w.
-          was_reset l h (sym c.if-is_spent.false ∙ c.is_spent.ensures.reads s l) c.read_fault-fault.ensures c.if-fault-ne0.false c.name_at-entry.ensures c.go_on.ensures w
-          c.register_at-register.ensures c.put_value.ensures;
+          was_reset l h (left _ l c.unspent.ensures c.in_ok-unspent.was) c.own_number.ensures c.in-Ok.is c.go_on.ensures w c.register_at-register.ensures c.put_value.ensures;
     }

@@ -10,19 +10,24 @@ use Rattle.walk.proofs.print.print_lines.Goals as goal
 
 pub loop-line-init : goal.loop-line-init
 loop-line-init g c =
-    (omega arith, subst (Appends (g.W.Write.contents c.args.to.now) (g.W.Write.contents c.args.to.now)) (sym (between_none c.args.order.now c.args.answers.now c.args.counts.now 0)) (Appends-nil (g.W.Write.contents c.args.to.now)))
+    let to = g.W.Write.contents c.args.to.now in
+    let steps = c.args.steps in
+    (omega arith, subst (Appends to to) (sym (between_none steps.order.now steps.answers.now steps.awaited.now 0)) (Appends-nil to))
 
 pub loop-line-preserved : goal.loop-line-preserved
-loop-line-preserved g c = (
-  c.put_page-page.ensures.within c.loop-line.invariant.0,
-  more_written c.args.order.now c.args.answers.now c.args.counts.now c.requires.order_in_bounds c.requires.order_in_bounds_2
-      (g.W.Write.contents c.args.to.now) (g.W.Write.contents c.loop-line.to) (g.W.Write.contents c.flush.new.to) c.loop-line.invariant.0
-      c.loop-line.invariant.1 c.put_page-page.ensures c.in_ok-flush.ensures.written,
-)
+loop-line-preserved g c =
+    let steps = c.args.steps in
+    let page = c.page-next.ensures in (
+      page.within c.loop-line.invariant.0,
+      more_written steps.order.now steps.answers.now steps.awaited.now c.requires.order_in_bounds c.requires.order_in_bounds_2
+          (g.W.Write.contents c.args.to.now) (g.W.Write.contents c.loop-line.to) (g.W.Write.contents c.send.new.to) c.loop-line.invariant.0
+          c.loop-line.invariant.1 c.new-text.ensures.empty page c.in_ok-send.ensures,
+    )
 
 pub returns-clause-printed : goal.returns-clause-printed
 returns-clause-printed g c =
-    let last : c.loop-line.line ≡ length c.args.order.now = omega (arith, c.loop-line.invariant.0) in
+    let steps = c.args.steps in
+    let last : c.loop-line.line ≡ length steps.order.now = omega (arith, c.loop-line.invariant.0) in
     subst (Appends (g.W.Write.contents c.args.to.now) (g.W.Write.contents c.loop-line.to))
-    (ap (lines_between c.args.order.now c.args.answers.now c.args.counts.now 0) last ∙ between_all c.args.order.now c.args.answers.now c.args.counts.now)
+    (ap (lines_between steps.order.now steps.answers.now steps.awaited.now 0) last ∙ between_all steps.order.now steps.answers.now steps.awaited.now)
     c.loop-line.invariant.1

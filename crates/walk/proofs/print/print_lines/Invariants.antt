@@ -5,7 +5,9 @@ use Rattle.lines.specs.Paged.{lines_between}
 use Rattle.walk.proofs.print.print_lines.Given as goal
 
 abbrev pub invariant-loop-line : goal.invariant-loop-line
-invariant-loop-line g l = (l.line ≤ length l.order) × Appends (g.W.Write.contents l.initial.to) (g.W.Write.contents l.to) (lines_between l.order l.answers l.counts 0 l.line)
+invariant-loop-line g l =
+    (l.line ≤ length l.steps.order.now)
+    × Appends (g.W.Write.contents l.initial.to) (g.W.Write.contents l.to) (lines_between l.steps.order.now l.steps.answers.now l.steps.awaited.now 0 l.line)
 
 abbrev pub decreases-loop-line : goal.decreases-loop-line
-decreases-loop-line g l = length l.order - l.line
+decreases-loop-line g l = length l.steps.order.now - l.line

@@ -1,13 +1,15 @@
--- The greatest name so far decides of those passed.
-use native.Mathlib.Omega.{arith}
-use Rattle.wellformed.proofs.WithinLaws.{greatest_none, greatest_more, greatest_same}
+-- The greatest name decides.
+use Prim.Native.Nat.{max}
+use mathlib.Core.Path.{ap, ◌∙◌}
+use lib.Dec.{leb}
+use Rattle.std.proofs.Common.{rules}
+use Rattle.std.proofs.lemmas.Iterator.{YieldsList-from_slice}
+use Rattle.std.proofs.lemmas.Iterator.Consumers.{fold_from_yields_List}
+use Rattle.encoding.specs.Bytes.{part}
+use Rattle.wellformed.proofs.WithinLaws.{names_fit_most}
 use Rattle.wellformed.proofs.within.bindings_fit.Goals as goal
 
-pub loop-n-init : goal.loop-n-init
-loop-n-init c = (omega arith, greatest_none _ _)
-
-pub loop-n-preserved-then-most-x : goal.loop-n-preserved-then-most-x
-loop-n-preserved-then-most-x c = (omega arith, greatest_more _ _ c.loop-n.invariant.1 (omega arith) c.if-most-x.true)
-
-pub loop-n-preserved : goal.loop-n-preserved
-loop-n-preserved c = (omega arith, greatest_same _ _ c.loop-n.invariant.1 (omega arith) c.if-most-x.false)
+pub returns : goal.returns
+returns c =
+    ap (λ m. leb m c.args.made) (fold_from_yields_List _ max 0 _ c.fold.ensures.ran (YieldsList-from_slice (part c.args.a.now.bytes.now 8 8) (cc)) (λ a x b q k. search rules))
+    ∙ names_fit_most c.args.made c.args.a.now.bytes.now c.args.a.now.sized

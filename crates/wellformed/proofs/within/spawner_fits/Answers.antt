@@ -5,8 +5,8 @@ use Rattle.wellformed.proofs.within.spawner_fits.Goals as goal
 
 pub returns-then-i-eq0 : goal.returns-then-i-eq0
 unfolding activity_at
-returns-then-i-eq0 c = main_spawner c.args.i (activity_at c.args.a.now) c.if-i-eq0.true
+returns-then-i-eq0 c = main_spawner c.args.i (activity_at c.args.a.now.bytes.now) c.if-i-eq0.true
 
 pub returns : goal.returns
 unfolding activity_at
-returns c = rw c.wide.ensures.0 (child_spawner c.args.i (activity_at c.args.a.now) c.if-i-eq0.false)
+returns c = child_spawner c.args.i (activity_at c.args.a.now.bytes.now) c.if-i-eq0.false

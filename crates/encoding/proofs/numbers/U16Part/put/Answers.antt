@@ -1,0 +1,7 @@
+-- The library's two bytes of a number.
+use mathlib.Core.Path.{◌∙◌}
+use Rattle.encoding.proofs.NumberLaws.{two_bytes}
+use Rattle.encoding.proofs.numbers.U16Part.put.Goals as goal
+
+pub returns : goal.returns
+returns c = c.copy_from_slice.ensures.after ∙ c.to_le_bytes.ensures ∙ two_bytes c.args.self c.ranges.self.fits

@@ -1,8 +1,0 @@
--- Its eight bytes.
-use mathlib.Core.Path.{ap, ◌∙◌}
-use Rattle.encoding.specs.Decode.{hold_encodes}
-use Rattle.entries.proofs.EntryLaws.{hold_bytes_lem}
-use Rattle.entries.proofs.hold_whole.Goals as goal
-
-pub returns : goal.returns
-returns c = λ l j. c.hold_encodes.ensures ∙ ap hold_encodes (hold_bytes_lem _ _ j)
