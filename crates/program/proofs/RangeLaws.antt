@@ -1,6 +1,6 @@
 -- What a reading is, test by test, and what a whole command that was read tells of its command.
 use mathlib.Core.Path.{◌≡◌, refl, sym, ap, ◌∙◌}
-use mathlib.Core.Bool.{Bool, true, false, cond}
+use mathlib.Core.Bool.{Bool, true, false, cond, ◌&&◌, ◌||◌}
 use mathlib.Core.List.{List, [], ◌∷◌}
 use Prim.Native.Nat.{ℕ, ◌+◌, ◌-◌, ◌<◌, ◌≤◌}
 use native.Mathlib.Omega.{arith}
@@ -11,15 +11,16 @@ use lib.Seq.{take_all, drop-cons}
 use borrow.Author.Tests.{leb-true, leb-false, le-leb, lt-leb, lt-ltb, le-ltb}
 use Rattle.std.specs.Prelude.{Option, Some, None, Ok, Err}
 use Rattle.std.specs.Option.{unwrap_or}
-use Rattle.program.specs.Command.{rows, row_at, row_of, width_at, opcode, operands_of, padded, command_of}
+use Rattle.program.specs.Command.{Operand, clockName, accumulatorName, operatorCode, mask, bodyNumber, runCount, commandCount, cellNumber, valueByte, inside, rows, row_at, row_of, width_at, opcode, operands_of, padded, command_of}
 use Rattle.program.specs.Inner.Coding.{commands, made}
 use Rattle.program.specs.Reading.{whole, all_inside, read, bare}
 use Rattle.program.specs.declared.command.Command.{Command}
 use Rattle.program.specs.declared.command.Command.TheVariants.{End}
 use Rattle.program.specs.declared.reading.Whole.{Whole}
 use Rattle.program.specs.declared.refusal.Refusal.TheVariants.{Unknown, Cut, Operand as Outside}
-use Rattle.program.proofs.Basic.{apart}
-use Rattle.program.proofs.ShapeReading.{firsts_inside, kept, read_as}
+use Rattle.program.proofs.Basic.{apart, and_true, true_false}
+use Rattle.program.proofs.RowLaws.{Missed, is_in, missed, width_alone}
+use Rattle.program.proofs.ShapeReading.{each_op, firsts_inside, kept, read_as}
 
 -- The part of a slice from a place on.
 pub tail_part : (s : List ℕ) (k : ℕ) → take (length s - k) (drop k s) ≡ drop k s
@@ -33,8 +34,8 @@ unfolding made command_of
 made_padded op s = refl
 
 -- The same of what is behind a place of a slice.
-pub made_at : (s : List ℕ) (op k : ℕ) {fields : List ℕ} {m : Option Command} → m ≡ made op fields → fields ≡ padded (take (length s - k) (drop k s)) → m ≡ made op (padded (drop k s))
-made_at s op k e f = e ∙ ap (made op) (f ∙ ap padded (tail_part s k))
+pub made_at : (s : List ℕ) (op k : ℕ) {m : Option Command} → m ≡ made op (take (length s - k) (drop k s)) → m ≡ made op (padded (drop k s))
+made_at s op k e = e ∙ ap (made op) (tail_part s k) ∙ sym (made_padded op (drop k s))
 
 -- No command has the byte, or this one.
 made_none : (op : ℕ) (s : List ℕ) → made op s ≡ None → commands ≤ op
@@ -53,6 +54,57 @@ made_some op s {c} h = by (leb commands op) refl h
     by true e g = apart (cc)
     by false e g = (leb-false _ _ e, cc)
 
+-- RANGES
+
+-- Whether the operands of a command byte are inside their ranges, whatever list of enough bytes they stand at the start of, the first x and the second y.
+abbrev pub Fitting : ℕ → ℕ → ℕ → Bool → Type 0
+Fitting op x y r = (s : List ℕ) → get_or s 0 0 ≡ x → get_or s 1 0 ≡ y → length (row_at op).operands ≤ length s → r ≡ all_inside (row_at op).operands s
+
+-- Operands of which any byte will do.
+abbrev free : Operand → Bool
+free clockName = false
+free accumulatorName = false
+free operatorCode = false
+free mask = true
+free bodyNumber = true
+free runCount = true
+free commandCount = false
+free cellNumber = false
+free valueByte = true
+
+abbrev all_free : List Operand → Bool
+all_free [] = true
+all_free (kind ∷ kinds) = free kind && all_free kinds
+
+inside_free : (kind : Operand) (x : ℕ) → free kind ≡ true → inside kind x ≡ true
+inside_free clockName x e = absurd (true_false false e refl)
+inside_free accumulatorName x e = absurd (true_false false e refl)
+inside_free operatorCode x e = absurd (true_false false e refl)
+inside_free mask x e = refl
+inside_free bodyNumber x e = refl
+inside_free runCount x e = refl
+inside_free commandCount x e = absurd (true_false false e refl)
+inside_free cellNumber x e = absurd (true_false false e refl)
+inside_free valueByte x e = refl
+
+all_free_lem : (kinds : List Operand) → all_free kinds ≡ true → (s : List ℕ) → true ≡ all_inside kinds s
+all_free_lem [] e s = refl
+all_free_lem (kind ∷ kinds) e [] = refl
+all_free_lem (kind ∷ kinds) e (x ∷ s) =
+    let q = and_true (free kind) (all_free kinds) e in
+    rw (inside_free kind x q.0) (all_free_lem kinds q.1 s)
+
+-- The command bytes with a range; the last arm has another, whose operands may be any bytes.
+abbrev ranged : List ℕ
+ranged = 16 ∷ 15 ∷ 14 ∷ 13 ∷ 11 ∷ 10 ∷ 9 ∷ 8 ∷ 4 ∷ 3 ∷ 2 ∷ []
+
+pub free_fits : (op : ℕ) {x y : ℕ} → op < commands → Missed op ranged → Fitting op x y true
+unfolding row_at rows
+free_fits op few h s first second room =
+    let all : (is_in op ranged || all_free (row_at op).operands) ≡ true =
+    each_op (λ (k : ℕ). (is_in k ranged || all_free (row_at k).operands) ≡ true) refl refl refl refl refl refl refl refl refl refl refl refl refl refl refl refl refl refl op few in
+    all_free_lem (row_at op).operands (rw (missed op ranged h) at all) s
+
 -- WHAT A READING IS
 
 pub read_empty : (s : List ℕ) → length s < 1 → Err Cut ≡ read s
@@ -66,18 +118,17 @@ unfolding read rows
 read_unknown [] some none = absurd (let y : ⊥ = omega arith in y)
 read_unknown (op ∷ s) some none = rw (le-leb _ _ (made_none op s (sym (made_padded op s) ∙ none)))
 
-module _ (s : List ℕ) (some : 1 ≤ length s) {c : Command} (is : made (get_or s 0 0) (padded (drop 1 s)) ≡ Some c) where
-  -- whether its bytes are there,
-  pub read_cut : length s < width_at (get_or s 0 0) → Err Cut ≡ read s
-  unfolding read rows width_at
-  read_cut = by s some is
-    where
-      by : (s : List ℕ) → 1 ≤ length s → made (get_or s 0 0) (padded (drop 1 s)) ≡ Some c → length s < width_at (get_or s 0 0) → Err Cut ≡ read s
-      by [] some is h = absurd (let y : ⊥ = omega arith in y)
-      by (op ∷ s) some is h =
-          let k = made_some op s (sym (made_padded op s) ∙ is) in
-          rw (lt-leb _ _ k.0, lt-ltb _ _ (let z : length s < length (row_at op).operands = omega arith in z))
+-- whether its bytes are there: the byte of no command is alone,
+pub read_cut : (s : List ℕ) → 1 ≤ length s → length s < width_at (get_or s 0 0) → Err Cut ≡ read s
+unfolding read rows width_at
+read_cut [] some h = absurd (let y : ⊥ = omega arith in y)
+read_cut (op ∷ s) some h = by (leb commands op) refl
+  where
+    by : (b : Bool) → leb commands op ≡ b → Err Cut ≡ read (op ∷ s)
+    by true e = let w = width_alone op (leb-true _ _ e) in absurd (let y : ⊥ = omega arith in y)
+    by false e = rw (e, lt-ltb _ _ (let z : length s < length (row_at op).operands = omega arith in z))
 
+module _ (s : List ℕ) (some : 1 ≤ length s) {c : Command} (is : made (get_or s 0 0) (padded (drop 1 s)) ≡ Some c) where
   -- and whether its operands are inside their ranges.
   module _ (fits : width_at (get_or s 0 0) ≤ length s) where
     pub read_tested : read s ≡ cond (all_inside (row_of c).operands (operands_of c)) (whole c (width_at (get_or s 0 0))) (Err Outside)

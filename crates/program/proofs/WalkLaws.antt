@@ -182,6 +182,15 @@ module _ {t : List ℕ} (sums : Counts) {c : Command} {runs : ℕ} {notes : List
         added_at t sums c runs nothing k ∙ rw (clear, unrun, zero-mul (amount nothing k), zero-mul (tally (weight k) (program_of t) (named c)));
   }
 
+-- The sums with a command more, and what is noted by then.
+pub record Summed (t : List ℕ) (sums : Counts) (c : Command) (sums₂ : Counts) (notes : List (Option Counts)) : Type 0 where
+  pub noted : Noted t notes
+  pub sum : (k : Kind) → amount sums₂ k ≡ cap (amount sums k + weight k c + times c * tally (weight k) (program_of t) (named c))
+
+pub summed : {t : List ℕ} {sums sums₂ inner : Counts} {c : Command} {runs : ℕ} {notes : List (Option Counts)}
+    → Run t sums c runs inner notes → sums₂ ≡ added sums c runs inner → Summed t sums c sums₂ notes
+summed run is = record { noted = run.noted; sum = λ k. rw is (run.sum k) }
+
 -- THE NOTES
 
 -- A body more.

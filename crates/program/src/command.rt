@@ -77,15 +77,30 @@ pub fn operands(command: Command) -> [u8; 4]
     }
 }
 
-// The bytes of a command byte and its operands, 1 where no command has this byte.
+// The bytes of a command byte and its operands, 1 where no command has this byte. A number an arm, and it is looked up; by ranges it is a row of comparisons.
 #[tactic(auto, unfolding(crate::specs::Command::width_at, crate::specs::Command::row_at, crate::specs::Command::rows))]
 pub fn width_at(op: u8) -> usize
     ensures { result ≡ width_at op }
 {
     match op {
-        2..=4 | 6 | 9..=11 | 13..=17 => 2,
-        5 | 7 | 8 => 3,
+        0 => 1,
+        1 => 1,
+        2 => 2,
+        3 => 2,
+        4 => 2,
+        5 => 3,
+        6 => 2,
+        7 => 3,
+        8 => 3,
+        9 => 2,
+        10 => 2,
+        11 => 2,
         12 => 5,
+        13 => 2,
+        14 => 2,
+        15 => 2,
+        16 => 2,
+        17 => 2,
         _ => 1,
     }
 }

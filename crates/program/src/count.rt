@@ -23,31 +23,16 @@ const NOTHING: Counts = Counts {
     accumulators: 0,
 };
 
-// What most commands count by themselves.
-const WORK: Counts = Counts {
-    work: 1,
-    activities: 0,
-    clocks: 0,
-    accumulators: 0,
-};
-
 // What a command counts by itself.
 #[tactic(auto, unfolding(crate::specs::Inner::Counting::own_counts, crate::specs::Command::row_of, crate::specs::Command::row_at, crate::specs::Command::rows))]
 fn own(command: Command) -> Counts
     ensures { result ≡ own_counts command }
 {
-    match command {
-        Command::Next => Counts { work: 2, ..WORK },
-        Command::Clock(_) => Counts { clocks: 1, ..WORK },
-        Command::Async(_, _) => Counts {
-            activities: 1,
-            ..WORK
-        },
-        Command::Acc(_, _) => Counts {
-            accumulators: 1,
-            ..WORK
-        },
-        _ => WORK,
+    Counts {
+        work: 1 + u64::from(matches!(command, Command::Next)),
+        activities: u64::from(matches!(command, Command::Async(_, _))),
+        clocks: u64::from(matches!(command, Command::Clock(_))),
+        accumulators: u64::from(matches!(command, Command::Acc(_, _))),
     }
 }
 
@@ -100,26 +85,27 @@ fn count_body(
     requires { Counting table.now code.now starts.now body notes.old }
     ensures { Filled table.now body result notes.new }
 {
-    if let Some(counts) = notes[body] {
-        return counts;
-    }
     let mut sums = NOTHING;
     let mut at: usize = 0;
     loop {
         let command = known(code, at);
+        let next = at + stride(byte_at(code, at), command);
         let runs = times(command);
-        let inner = if 0 < runs {
+        sums = if 0 < runs {
             let b = named(command);
-            count_body(table, &table[starts[b]..], starts, b, notes)
+            let inner = match notes[b] {
+                Some(counts) => counts,
+                None => count_body(table, &table[starts[b]..], starts, b, notes),
+            };
+            sums.with(command, runs as u64, inner)
         } else {
-            NOTHING
+            sums.with(command, 0, NOTHING)
         };
-        sums = sums.with(command, runs as u64, inner);
         if is_end(command) {
             notes[body] = Some(sums);
             return sums;
         }
-        at += stride(byte_at(code, at), command);
+        at = next;
     }
 }
 

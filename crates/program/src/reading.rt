@@ -33,12 +33,15 @@ fn first_four(code: &[u8]) -> [u8; 4]
     ]
 }
 
-// The command of a byte with these operands, or none where no command has this byte.
+// The command of a byte with the operands behind it, or none where no command has this byte. PUT alone has more than two. Compiled in by a mark: as a call it hands the
+// command over through memory.
+#[inline(always)]
 #[tactic(auto, unfolding(crate::specs::Inner::Coding::made, crate::specs::Command::command_of, crate::specs::Command::rows))]
-fn command_of(op: u8, operands: [u8; 4]) -> Option<Command>
-    ensures { result ≡ made op operands }
+fn command_of(op: u8, rest: &[u8]) -> Option<Command>
+    ensures { result ≡ made op rest.now }
 {
-    let [x, y, _, _] = operands;
+    let x = byte_at(rest, 0);
+    let y = byte_at(rest, 1);
     match op {
         0 => Some(Command::End),
         1 => Some(Command::Next),
@@ -52,7 +55,7 @@ fn command_of(op: u8, operands: [u8; 4]) -> Option<Command>
         9 => Some(Command::Offer(x)),
         10 => Some(Command::Read(x)),
         11 => Some(Command::Reset(x)),
-        12 => Some(Command::Put(u32::from_le_bytes(operands))),
+        12 => Some(Command::Put(u32::from_le_bytes(first_four(rest)))),
         13 => Some(Command::Fetch(x)),
         14 => Some(Command::Store(x)),
         15 => Some(Command::Add(x)),
@@ -77,34 +80,38 @@ fn operands_fit(command: Command) -> bool
     }
 }
 
-// The command at the start of a slice: numbers 3, 4 and 5 in this order.
+// The command at the start of a slice: numbers 3, 4 and 5 in this order. A byte that no command has is one byte wide, so it is never cut; with the bytes tried first,
+// the command and its ranges are looked up in one go.
 pub(crate) fn read(code: &[u8]) -> Result<Whole, Refusal>
     ensures { result ≡ read code.now }
 {
     let [op, rest @ ..] = code else {
         return Err(Refusal::Cut);
     };
-    let Some(command) = command_of(*op, first_four(rest)) else {
-        return Err(Refusal::Unknown);
-    };
     let size = width_at(*op);
     if code.len() < size {
         return Err(Refusal::Cut);
     }
+    let Some(command) = command_of(*op, rest) else {
+        return Err(Refusal::Unknown);
+    };
     if !operands_fit(command) {
         return Err(Refusal::Operand);
     }
     Ok(Whole { command, size })
 }
 
-// The command at an offset, with nothing tried: for where a whole one is known to stand.
+// The command at an offset, with nothing tried: for where a whole one is known to stand. Compiled in by the same mark.
+#[inline(always)]
 pub fn known(code: &[u8], offset: usize) -> Command
     ensures { result ≡ bare (drop offset code.now) }
 {
     if code.len() <= offset {
         return Command::End;
     }
-    let op = code[offset];
-    let operands = first_four(&code[offset + 1..]);
-    command_of(op, operands).unwrap_or(Command::End)
+    // By a match: with `unwrap_or` the command goes through memory.
+    match command_of(code[offset], &code[offset + 1..]) {
+        Some(command) => command,
+        None => Command::End,
+    }
 }

@@ -22,8 +22,11 @@ pub struct Layout {
 fn name_fits(bodies: usize, body: usize, command: Command) -> bool
     ensures { result ≡ name_fits bodies body command }
 {
+    if !names(command) {
+        return true;
+    }
     let b = named(command);
-    !names(command) || (body < b && b < bodies)
+    body < b && b < bodies
 }
 
 // Numbers 6 and 7 in this order, where `left` commands still belong to an ATOM.

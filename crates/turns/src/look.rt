@@ -11,7 +11,9 @@ use program::command::Command;
 use program::refusal::Refusal;
 use waits::waiting::awaited_at;
 
-// The command that activity i stands on, or 14 or 15. Who has neither ended nor a body is in no well-formed state.
+// The command that activity i stands on, or 14 or 15. Who has neither ended nor a body is in no well-formed state. Compiled in by a
+// mark: as a call it hands the command over through memory.
+#[inline(always)]
 pub(crate) fn standing_on(table: &Accepted<'_>, state: &[u8], i: usize) -> Result<Command, Refusal>
     ensures { Stands table.now.bytes.now state.now i result }
 {

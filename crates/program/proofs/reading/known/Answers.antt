@@ -11,10 +11,14 @@ use Rattle.program.proofs.reading.known.Goals as goal
 pub returns-then-code-offset : goal.returns-then-code-offset
 returns-then-code-offset c = bare_none c.args.code.now c.args.offset c.if-code-offset.true
 
-pub returns : goal.returns
-returns c =
+pub returns-in-Some : goal.returns-in-Some
+returns-in-Some c =
     let s = c.args.code.now in
     let at = c.args.offset in
-    c.unwrap_or.ensures
-    ∙ ap (λ (m : Option Command). unwrap_or m End) (made_at s _ (at + 1) c.command_of.ensures c.first_four-operands.ensures)
-    ∙ sym (bare_made s at c.if-code-offset.false)
+    ap (λ (m : Option Command). unwrap_or m End) (sym c.in-Some.is ∙ made_at s _ (at + 1) c.command_of.ensures) ∙ sym (bare_made s at c.if-code-offset.false)
+
+pub returns-in-None : goal.returns-in-None
+returns-in-None c =
+    let s = c.args.code.now in
+    let at = c.args.offset in
+    ap (λ (m : Option Command). unwrap_or m End) (sym c.in-None.is ∙ made_at s _ (at + 1) c.command_of.ensures) ∙ sym (bare_made s at c.if-code-offset.false)
