@@ -8,11 +8,10 @@ use native.Mathlib.Numerals.{add-one}
 use native.Mathlib.Omega.{arith}
 use borrow.Author.Tests.{leb-true, leb-false, ltb-false, lt-ltb, le-ltb, eq-eqb, ne_eqb}
 use lib.Dec.{leb, ltb}
-use Rattle.std.specs.Prelude.{min}
 use lib.ListN.{length, take, get_or, set, length-set, length-append}
 use lib.Seq.{sets, length-sets, set_out, take-suc}
 use Rattle.lines.specs.declared.put.Text.{Text}
-use Rattle.lines.specs.Put.{Put}
+use Rattle.lines.specs.Put.{Put, place_after}
 use Rattle.lines.specs.Text.{last_digit, digits_of, decimal_of, awaited_of}
 
 -- Nothing is written past the end.
@@ -30,19 +29,19 @@ sets_both l i (x ∷ xs) ys =
     sets_both (set l i x) (suc i) xs ys ∙ ap (λ (k : ℕ). sets (sets (set l i x) (suc i) xs) k ys) e
 
 -- The same where the buffer ends within the first: nothing of the second is written.
-sets_after : (l : List ℕ) (i : ℕ) (xs ys : List ℕ) → sets l i (xs ++ ys) ≡ sets (sets l i xs) (min (i + length xs) (length l)) ys
+sets_after : (l : List ℕ) (i : ℕ) (xs ys : List ℕ) → sets l i (xs ++ ys) ≡ sets (sets l i xs) (place_after (length l) i (length xs)) ys
 sets_after l i xs ys = go (leb (i + length xs) (length l)) refl
   where
-    go : (b : Bool) → leb (i + length xs) (length l) ≡ b → sets l i (xs ++ ys) ≡ sets (sets l i xs) (min (i + length xs) (length l)) ys
+    go : (b : Bool) → leb (i + length xs) (length l) ≡ b → sets l i (xs ++ ys) ≡ sets (sets l i xs) (place_after (length l) i (length xs)) ys
     go true h =
         let k : i + length xs ≤ length l = leb-true (i + length xs) (length l) h in
-        let e : i + length xs ≡ min (i + length xs) (length l) = omega arith in
+        let e : i + length xs ≡ place_after (length l) i (length xs) = omega arith in
         sets_both l i xs ys ∙ ap (λ (k : ℕ). sets (sets l i xs) k ys) e
     go false h =
         let k : length l < i + length xs = leb-false (i + length xs) (length l) h in
         let far : length (sets l i xs) ≤ i + length xs = omega (arith, length-sets l i xs) in
-        let out : length (sets l i xs) ≤ min (i + length xs) (length l) = omega (arith, length-sets l i xs) in
-        sets_both l i xs ys ∙ sets_out (sets l i xs) (i + length xs) ys far ∙ sym (sets_out (sets l i xs) (min (i + length xs) (length l)) ys out)
+        let out : length (sets l i xs) ≤ place_after (length l) i (length xs) = omega (arith, length-sets l i xs) in
+        sets_both l i xs ys ∙ sets_out (sets l i xs) (i + length xs) ys far ∙ sym (sets_out (sets l i xs) (place_after (length l) i (length xs)) ys out)
 
 -- The buffer's length stays.
 pub kept : {a b : Text} {xs : List ℕ} → Put a xs b → length b.out.now ≡ length a.out.now
@@ -62,7 +61,7 @@ both {a} {b} {c} {xs} {ys} p q = record {
 
 -- Nothing put.
 pub none : {a : Text} → Put a [] a
-none {a} = record { same_buffer = refl; holds = refl; place = omega (arith, a.fits) }
+none {a} = record { same_buffer = refl; holds = refl; place = omega arith }
 
 -- A byte more.
 pub more : (text : List ℕ) (i : ℕ) {a b c : Text} → i < length text → Put a (take i text) b → Put b (get_or text i 0 ∷ []) c → Put a (take (i + 1) text) c

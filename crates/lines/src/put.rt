@@ -1,16 +1,15 @@
 // A text under way, put at the start of a lent buffer: a byte, bytes and a number.
-ghost use Rattle.std.specs.Prelude.{◌≡◌, ◌≤◌, length};
+ghost use Rattle.std.specs.Prelude.{◌≡◌, ◌-◌, length};
 
-// The text's bytes stand before `end`.
+// The text's bytes stand before `end`. Where that is past the buffer, nothing more is put.
 #[derive(Drop)]
 pub struct Text<'a> {
     pub out: &'a mut [u8],
     pub end: usize,
-    ghost fits: { end ≤ length out.now },
 }
 
 impl<'a> Text<'a> {
-    ghost use Rattle.std.specs.Prelude.{[], ◌∷◌, ◌+◌};
+    ghost use Rattle.std.specs.Prelude.{[], ◌∷◌};
     ghost use Rattle.lines.specs.Put.{Put};
     ghost use Rattle.lines.specs.Text.{decimal_of};
 
@@ -25,9 +24,9 @@ impl<'a> Text<'a> {
 
     // How many bytes more there is room for.
     pub fn room(&self) -> usize
-        ensures { result + self.now.end ≡ length self.now.out.now }
+        ensures { result ≡ length self.now.out.now - self.now.end }
     {
-        self.out.len() - self.end
+        self.out.len().saturating_sub(self.end)
     }
 
     // A byte, where there is room.

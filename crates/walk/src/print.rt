@@ -1,17 +1,21 @@
 // Text handed on to a writer, a page at a time.
-ghost use Rattle.std.specs.Prelude.{◌≡◌, ◌≤◌, length, take, IfOk, OnOk};
-ghost use Rattle.std.specs.Io.KnownBytes.{Appends};
+ghost use Rattle.std.specs.Prelude.{◌≡◌, ◌≤◌, ◌<◌, length, take, IfOk, OnOk};
+ghost use Rattle.std.specs.Io.KnownBytes.{Appends, Keeps};
 ghost use Rattle.lines.specs.Walk.{lines_from};
 
 use lines::{Steps, Text};
 use std::io;
 use std::io::Write;
 
-// Writes the text's bytes.
+// Writes the text's bytes, where it ends within its buffer.
 pub fn send<W: Write>(to: &mut W, text: &Text<'_>) -> io::Result<()>
-    ensures { OnOk result (Appends (W.contents to.old) (W.contents to.new) (take text.now.end text.now.out.now)) }
+    ensures written { text.now.end ≤ length text.now.out.now → OnOk result (Appends (W.contents to.old) (W.contents to.new) (take text.now.end text.now.out.now)) }
+    ensures past { length text.now.out.now < text.now.end → Keeps (W.contents to.old) (W.contents to.new) }
 {
-    to.write_all(&text.out[..text.end])
+    if text.end <= text.out.len() {
+        to.write_all(&text.out[..text.end])?;
+    }
+    Ok(())
 }
 
 // Writes the lines, as many at a time as the buffer holds, until none is left, and answers how many there were. A page says which line comes next, so no range has them.
