@@ -1,7 +1,7 @@
 -- What the reader of tables and number 13's check give.
 use Prim.Native.Nat.{ℕ}
 use native.Mathlib.Omega.{arith}
-use mathlib.Core.Path.{◌≡◌, refl, sym, ◌∙◌}
+use mathlib.Core.Path.{◌≡◌, refl, sym, ap, ◌∙◌}
 use mathlib.Core.List.{List}
 use mathlib.Core.Bool.{Bool, true, false, cond}
 use lib.Dec.{eqb}
@@ -17,8 +17,10 @@ use Rattle.program.proofs.Refusals.{answered_err}
 use Rattle.rules.specs.WellFormed.{well_formed}
 use Rattle.rules.specs.Steps.{base, unfit}
 use Rattle.encoding.specs.Decode.{encodes, state_of}
-use Rattle.wellformed.specs.Passing.{unfit_bytes}
-use Rattle.wellformed.proofs.Numbers.{Read, checked, checked_ok, checked_err}
+use Rattle.wellformed.specs.declared.unfit.Unfit.{Unfit}
+use Rattle.wellformed.specs.Judged.{judged, refusal_of, refused}
+use Rattle.wellformed.specs.Passing.{passes, unfit_bytes}
+use Rattle.wellformed.proofs.Numbers.{Read, refused_checked, checked_ok, checked_err}
 use Rattle.calls.specs.Calls.{table_first, unfit_number}
 
 -- THE TABLE
@@ -54,16 +56,16 @@ module _ (t b : List ℕ) where
   unfolding unfit_bytes unfit_number table_first
   number_none h = rw h
 
-  module _ {r : Result Table Refusal} (is : r ≡ checked t b) where
+  module _ {r : Result Table Unfit} (is : r ≡ judged (table_of work_limit t) (passes (program_of t) b)) where
     -- A number.
-    pub turned_down : {e : Refusal} → r ≡ Err e → (refusal_number e ≡ unfit_bytes (number_of work_limit t) (program_of t) b) × (refusal_number e ≡ 0 → ⊥)
-    turned_down h = let k = checked_err t b is h in (k.0, λ z. omega arith)
+    pub turned_down : {u : Unfit} → r ≡ Err u → (refusal_number (refusal_of u) ≡ unfit_bytes (number_of work_limit t) (program_of t) b) × (refusal_number (refusal_of u) ≡ 0 → ⊥)
+    turned_down h = let k = checked_err t b (refused_checked t b is) (ap refused h) in (k.0, λ z. omega arith)
 
     -- No number.
     pub passed : {x : Table} → r ≡ Ok x → Passed t b × Read t x
     unfolding unfit_bytes unfit
     passed h =
-        let k = checked_ok t b is h in
+        let k = checked_ok t b (refused_checked t b is) (ap refused h) in
         let q = parts (encodes b) (number_of work_limit t) (well_formed 65535 (program_of t) (state_of b)) (eqb (number_of work_limit t) 0) refl k.0 in
         (record { whole = q.0; accepted = q.1.0; formed = q.1.1 }, k.1)
       where

@@ -11,7 +11,7 @@ use Rattle.program.specs.Refusal.{refusal_number, refusal_at}
 use Rattle.program.proofs.Basic.{Bytes}
 use Rattle.rules.specs.declared.state.State.{State}
 use Rattle.rules.specs.declared.answer.Stepped.{Stepped}
-use Rattle.rules.specs.State.{Answer}
+use Rattle.rules.specs.State.{Answer, taken_number}
 use Rattle.rules.specs.WellFormed.{well_formed}
 use Rattle.rules.specs.Steps.{base, stepped, step_with, step, advance}
 use Rattle.rules.proofs.AnswerNumbers.{unfit_number}
@@ -19,7 +19,6 @@ use Rattle.rules.proofs.StepLaws.{fit, step_refused}
 use Rattle.encoding.specs.Encode.{encode_state}
 use Rattle.encoding.specs.Decode.{encodes, state_of}
 use Rattle.encoding.proofs.StateLaws.{encode_state_state_of}
-use Rattle.moves.specs.Moves.{taken_number}
 use Rattle.turns.specs.declared.Reply.{Reply}
 use Rattle.turns.specs.Turns.{TurnsAny}
 use Rattle.wellformed.specs.Passing.{unfit_bytes}

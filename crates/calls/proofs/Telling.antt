@@ -22,7 +22,7 @@ use Rattle.rules.proofs.Awaited.{awaited_zero}
 use Rattle.rules.proofs.StepLaws.{fit}
 use Rattle.encoding.specs.Bytes.{encode_each}
 use Rattle.encoding.specs.Decode.{encodes, state_of}
-use Rattle.moves.specs.Moves.{taken_number}
+use Rattle.rules.specs.State.{taken_number}
 use Rattle.turns.specs.declared.Reply.{Reply}
 use Rattle.turns.specs.Turns.{Looks, Readies}
 use Rattle.wellformed.specs.Passing.{unfit_bytes}

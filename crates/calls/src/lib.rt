@@ -6,7 +6,7 @@ ghost use Rattle.std.specs.Prelude.{◌≡◌, length, Ok};
 ghost use Rattle.std.specs.Result.{result_unwrap_or};
 ghost use Rattle.program.specs.Refusal.{told};
 ghost use Rattle.program.specs.Table.{work_limit, table_of};
-ghost use Rattle.moves.specs.Moves.{taken_number};
+ghost use Rattle.rules.specs.State.{taken_number};
 ghost use Rattle.calls.specs.Calls.{start_number, start_bytes, step_number, step_bytes, ready_number, ready_set, awaits_number, awaits_count, sheet_number, sheet_bytes, run_number, run_answers, run_bytes, trace_counts};
 
 use begin::{put_none, put_start};
@@ -85,9 +85,9 @@ pub fn registrations(table: &[u8], state: &[u8], sheet: &mut [u8]) -> Result<(),
     ensures { (told result ≡ sheet_number table.now state.now sheet.old) × (sheet.new ≡ sheet_bytes table.now state.now sheet.old) }
 {
     // No `?`: a refused call leaves a sheet too.
-    if let Err(refusal) = check_state(table, state) {
+    if let Err(unfit) = check_state(table, state) {
         sheet::put_none(sheet);
-        return Err(refusal);
+        return Err(unfit.refusal());
     }
     if sheet.len() != 1024 {
         return Err(Refusal::Buffer);

@@ -22,6 +22,7 @@ use Rattle.rules.specs.Faults.{Env}
 use Rattle.rules.specs.Effects as effects
 use Rattle.rules.specs.Effects.{past, pushed, again, popped, end_of, next_of, repeat_of, choose_of, child, stopped, reduce, new_value, Touch, cell_after, touch, touch_all, Spawned, nobody, one, Write, keep, make, offer, reset, Effect, with_value, with_written, with_spawned, with_stores, untouched, effect_of, env_of, applied}
 use Rattle.rules.specs.Steps.{at, effect, step, Limits}
+use Rattle.rules.specs.Runs.{run_from}
 use Rattle.rules.proofs.Lists.{Stored, new, old, stored}
 use Rattle.rules.proofs.Shapes.{OfChild}
 use Rattle.rules.proofs.Turn.{turn, by_fault}
@@ -232,3 +233,9 @@ module _ (t : List ℕ) (y : Bytes t) where
           (λ f. record { self = h.registers i; born = tt; write = tt; stores = tt })
           in
           rw e (applied_small s h i (effect (program_of t) s i) k)
+
+  -- A list of calls.
+  pub small_run : (l : Limits) (order : List ℕ) (s : State) → Small s → Small (run_from l t s order)
+  unfolding run_from
+  small_run l [] s h = h
+  small_run l (i ∷ order) s h = small_run l order (step l t s i).state (small_step l s i h)

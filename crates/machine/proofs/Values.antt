@@ -12,9 +12,9 @@ use Rattle.program.specs.Table.{work_limit, number_of, counted, table_of}
 use Rattle.program.specs.declared.table.Table.{Table}
 use Rattle.program.specs.declared.refusal.Refusal.{Refusal}
 use Rattle.program.specs.declared.refusal.Refusal.TheVariants.{Spent, Buffer}
-use Rattle.program.specs.Refusal.{refusal_number, refusal_at, told, answered}
+use Rattle.program.specs.Refusal.{refusal_number, refusal_at, told}
 use Rattle.program.proofs.Basic.{Bytes}
-use Rattle.program.proofs.Refusals.{answered_ok, answered_at, answered_refusal, refusal_some, told_answered}
+use Rattle.program.proofs.Refusals.{answered_ok, answered_at, answered_refusal, refusal_some}
 use Rattle.rules.specs.declared.state.Fault.{Fault}
 use Rattle.rules.specs.declared.state.Fault.TheVariants.{F1, F2, F3, F4, F5, F6, F7, F8}
 use Rattle.rules.specs.declared.state.Status.{Status}
@@ -22,13 +22,12 @@ use Rattle.rules.specs.declared.state.Status.TheVariants.{Running, AtBarrier, En
 use Rattle.rules.specs.declared.state.Activity.{Activity}
 use Rattle.rules.specs.declared.state.State.{State}
 use Rattle.rules.specs.declared.answer.Stepped.{Stepped}
-use Rattle.rules.specs.State.{Answer, zero_state, fault_number, status_answer, answer_number, act}
+use Rattle.rules.specs.State.{Answer, zero_state, fault_number, status_answer, answer_number, act, taken_number}
 use Rattle.rules.specs.Effects.{applied}
 use Rattle.rules.specs.Steps.{base, start_state, start_with, start, effect, stepped, step, Ready, ready, ready_set as set_of, no_sheet, sheet_of, registrations, registrations_number}
 use Rattle.rules.proofs.Turn.{turn}
 use Rattle.rules.proofs.WellFormedFacts.{facts}
 use Rattle.rules.proofs.StepLaws.{Outcome, unfits, refuses, overflows, takes, outcome}
-use Rattle.rules.proofs.AnswerNumbers.{unfit_small}
 use Rattle.rules.proofs.FaultNumbers.{fault_range}
 use Rattle.encoding.specs.Encode.{encode_state}
 use Rattle.encoding.specs.Decode.{state_of, fields_encode, encodes, decoded_of}
@@ -40,7 +39,6 @@ use Rattle.wellformed.specs.Passing.{unfit_bytes}
 use Rattle.calls.specs.Calls.{step_number, step_bytes, ready_number, ready_set}
 use Rattle.calls.proofs.Lending.{lent_state}
 use Rattle.calls.proofs.Encoded.{step_number_lem, step_bytes_lem, ready_number_lem, ready_set_lem}
-use Rattle.moves.specs.Moves.{taken_number}
 use Rattle.machine.specs.Numbers.{answer_of}
 use Rattle.std.specs.Prelude.{Option, Some, None, Result, Ok, Err}
 use Rattle.std.specs.Result.{result_unwrap_or}
@@ -188,15 +186,14 @@ module _ (t : List ℕ) {s : State} (f : Fitting s) {b : List ℕ} (q : b ≡ en
   unfolding unfit_bytes registrations_number
   number_lem = rw (q, encoded f, back f)
 
-  module _ {x : Result Table Refusal} (e : x ≡ answered (unfit_bytes (number_of work_limit t) (program_of t) b) (counted t)) where
-    pub sheet_number_lem : told x ≡ registrations_number base t s
-    unfolding registrations_number
-    sheet_number_lem = rw (e, number_lem) (told_answered _ _ (omega (arith, unfit_small base t s)))
+  module _ {n : ℕ} (e : n ≡ unfit_bytes (number_of work_limit t) (program_of t) b) where
+    pub sheet_number_lem : n ≡ registrations_number base t s
+    sheet_number_lem = e ∙ number_lem
 
-    pub sheet_unfit : {r : Refusal} → x ≡ Err r → no_sheet ≡ registrations base t s
-    unfolding registrations
-    sheet_unfit d = let h = (answered_at _ (counted t) (sym e ∙ d)).0 in rw (← number_lem, ne_eqb _ 0 h)
+    pub sheet_unfit : 0 < n → no_sheet ≡ registrations base t s
+    unfolding registrations registrations_number
+    sheet_unfit h = rw (ne_eqb (registrations_number base t s) 0 (λ z. omega (arith, sheet_number_lem)))
 
-    pub sheet_fit : {y : Table} {r : List (List ℕ)} → x ≡ Ok y → Reads sheet_of b r → r ≡ registrations base t s
-    unfolding registrations
-    sheet_fit d m = let z = (answered_ok _ (counted t) (sym e ∙ d)).0 in m.reads s (rw q (lent f)) ∙ rw (← number_lem, z)
+    pub sheet_fit : {r : List (List ℕ)} → n ≡ 0 → Reads sheet_of b r → r ≡ registrations base t s
+    unfolding registrations registrations_number
+    sheet_fit z m = let k : registrations_number base t s ≡ 0 = sym sheet_number_lem ∙ z in m.reads s (rw q (lent f)) ∙ rw k

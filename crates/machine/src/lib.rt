@@ -97,8 +97,8 @@ pub fn registrations(table: &[u8], s: State, number: &mut u8) -> [[u8; 16]; 64]
             *number = 0;
             sheet_of(&bytes)
         }
-        Err(refusal) => {
-            *number = refusal.number();
+        Err(unfit) => {
+            *number = unfit.refusal().number();
             [[0u8; 16]; 64]
         }
     }

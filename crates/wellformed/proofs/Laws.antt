@@ -1,14 +1,16 @@
 -- Laws of the clauses of number 13: what each test of the code says of its definition.
 use Prim.Native.Nat.{ℕ, zero, suc, ◌-◌, ◌≤◌, ◌<◌}
 use native.Mathlib.Omega.{arith}
-use mathlib.Core.Path.{◌≡◌, refl}
+use mathlib.Core.Path.{◌≡◌, refl, sym, ◌∙◌}
 use mathlib.Core.Bool.{Bool, true, false, cond, ◌||◌, ◌&&◌, not}
 use lib.Dec.{ltb, leb, eqb}
-use borrow.Author.Tests.{ltb-true, leb-true, lt-ltb}
+use borrow.Author.Tests.{ltb-true, leb-true, lt-leb, lt-ltb, ne_eqb}
 use Rattle.program.specs.declared.command.Command.{Command}
-use Rattle.program.specs.declared.command.Command.TheVariants.{Next}
-use Rattle.program.specs.Command.{opcode}
+use Rattle.program.specs.declared.command.Command.TheVariants.{End, Next, Clock, Resume, Drop, Async, Finish, Repeat, Acc, Offer, Read, Reset, Put, Fetch, Store, Add, Atom, Choose}
+use Rattle.program.specs.Command.{opcode, named, times}
 use Rattle.program.specs.Bodies.{Program}
+use Rattle.program.proofs.ShapeRows.{named_is, times_is}
+use Rattle.rules.specs.declared.state.Frame.{Frame}
 use Rattle.rules.specs.declared.state.Hold.{Hold}
 use Rattle.rules.specs.declared.state.Activity.{Activity}
 use Rattle.rules.specs.declared.state.Status.{Status}
@@ -16,7 +18,7 @@ use Rattle.rules.specs.declared.state.Status.TheVariants.{Running, AtBarrier, En
 use Rattle.rules.specs.Search.{some_below, all_below}
 use Rattle.rules.specs.State.{frame, top, is_ended, is_at_barrier}
 use Rattle.rules.specs.Clocks.{is_held}
-use Rattle.rules.specs.WellFormed.{is_no_frame, is_placed, is_bottom, is_stacked, frame_fits, stack_fits, body_fits, spawner_fits}
+use Rattle.rules.specs.WellFormed.{is_no_frame, run_by, is_placed, is_bottom, is_stacked, frame_fits, stack_fits, body_fits, spawner_fits}
 use Rattle.rules.proofs.Tests.{and_true, true_false}
 use Rattle.rules.proofs.Search.{all_below_at}
 use Rattle.wellformed.specs.Entries.{are_apart}
@@ -40,6 +42,39 @@ apart_free x y free = by (is_held x.registration) (is_held y.registration) free
     by p true e = absurd (true_false true refl e)
     by true false e = refl
     by false false e = refl
+
+-- COMMANDS THAT RUN A BODY
+
+-- The least number.
+least : (x : ℕ) → leb x 0 ≡ eqb x 0
+least zero = refl
+least (suc x) = lt-leb (suc x) 0 (omega arith) ∙ sym (ne_eqb (suc x) 0 (λ z. omega arith))
+
+-- What runs a frame, by the command's byte.
+pub run_by_opcode : (made : ℕ) (c : Command) (f : Frame)
+    → run_by made c f
+    ≡ cond (eqb (opcode c) 6) (eqb f.body (named c) && (eqb f.runs 0 && leb f.first made))
+    (cond (eqb (opcode c) 7) (eqb f.body (named c) && (leb 1 f.runs && (leb f.runs (times c) && eqb f.first 0)))
+    (cond (eqb (opcode c) 17) (eqb f.body (named c) && (eqb f.runs 0 && leb f.first 0)) false))
+unfolding run_by
+run_by_opcode made End f = refl
+run_by_opcode made Next f = refl
+run_by_opcode made (Clock c) f = refl
+run_by_opcode made (Resume c) f = refl
+run_by_opcode made (Drop c) f = refl
+run_by_opcode made (Async b m) f = refl
+run_by_opcode made (Finish b) f = rw (named_is (Finish b))
+run_by_opcode made (Repeat n b) f = rw (named_is (Repeat n b), times_is (Repeat n b))
+run_by_opcode made (Acc a o) f = refl
+run_by_opcode made (Offer a) f = refl
+run_by_opcode made (Read a) f = refl
+run_by_opcode made (Reset a) f = refl
+run_by_opcode made (Put v) f = refl
+run_by_opcode made (Fetch d) f = refl
+run_by_opcode made (Store d) f = refl
+run_by_opcode made (Add d) f = refl
+run_by_opcode made (Atom k) f = refl
+run_by_opcode made (Choose b) f = rw (named_is (Choose b), least f.first)
 
 -- NEXT is the command of its byte, and no other command is.
 pub on_next : (c : Command) → c ≡ Next → true ≡ eqb (opcode c) 1

@@ -9,19 +9,21 @@ use borrow.Author.Tests.{eq-eqb, ne_eqb, eqb-true}
 use Rattle.std.specs.Prelude.{Result, Ok, Err}
 use Rattle.program.specs.Bodies.{Program, program_of}
 use Rattle.program.specs.Count.{work_of}
-use Rattle.program.specs.Refusal.{refusal_number, answered}
+use Rattle.program.specs.Refusal.{refusal_number, told, answered}
 use Rattle.program.specs.Table.{work_limit, number_of, counted, table_of}
 use Rattle.program.specs.declared.refusal.Refusal.{Refusal}
 use Rattle.program.specs.declared.table.Table.{Table}
 use Rattle.program.specs.declared.refusal.Refusal.TheVariants.{State}
 use Rattle.program.proofs.NumberLaws.{number_small}
-use Rattle.program.proofs.Refusals.{answered_ok, answered_err, answered_at}
+use Rattle.program.proofs.Refusals.{told_answered, answered_ok, answered_err, answered_at}
 use Rattle.program.proofs.TableLaws.{table_read}
 use Rattle.program.proofs.ShapeLaws.{numbered, numbered_counted}
 use Rattle.rules.specs.WellFormed.{well_formed}
 use Rattle.rules.specs.Steps.{unfit}
 use Rattle.encoding.specs.Decode.{encodes, state_of}
 use Rattle.places.specs.Known.{Known}
+use Rattle.wellformed.specs.declared.unfit.Unfit.{Unfit}
+use Rattle.wellformed.specs.Judged.{judged, refused}
 use Rattle.wellformed.specs.Passing.{passes, unfit_bytes}
 
 -- An accepted table and what was read of it: its starts and its work.
@@ -70,7 +72,7 @@ unfit_small n p b h = rw (← bytes_number n p b) (by (eqb n 0) (passes p b))
     by false q = omega arith
 
 module _ (t b : List ℕ) where
-  -- What the check of a table and a state's bytes answers.
+  -- What the check of a table and a state's bytes answers, by its number.
   abbrev pub checked : Result Table Refusal
   checked = answered (unfit_bytes (number_of work_limit t) (program_of t) b) (counted t)
 
@@ -87,6 +89,19 @@ module _ (t b : List ℕ) where
 
   pub not_fit : {x : Table} → Read t x → passes (program_of t) b ≡ false → Err State ≡ checked
   not_fit r h = ap (λ n. answered n (counted t)) (rw (eq-eqb (number_of work_limit t) 0 r.accepted, h) at (bytes_number (number_of work_limit t) (program_of t) b))
+
+  -- The number of this answer.
+  pub checked_told : {r : Result Table Refusal} → r ≡ checked → told r ≡ unfit_bytes (number_of work_limit t) (program_of t) b
+  checked_told is = ap told is ∙ told_answered (unfit_bytes (number_of work_limit t) (program_of t) b) (counted t) (unfit_small _ (program_of t) b (number_small work_limit t))
+
+  -- The answer that tells the table of an unfit state too, by its refusal.
+  pub refused_checked : {r : Result Table Unfit} → r ≡ judged (table_of work_limit t) (passes (program_of t) b) → refused r ≡ checked
+  refused_checked is = ap refused is ∙ go (table_of work_limit t) (passes (program_of t) b) refl refl
+    where
+      go : (x : Result Table Refusal) (q : Bool) → table_of work_limit t ≡ x → passes (program_of t) b ≡ q → refused (judged x q) ≡ checked
+      go (Ok x) true e h = fit (read_ok t refl e) h
+      go (Ok x) false e h = not_fit (read_ok t refl e) h
+      go (Err e) q h k = unread refl h
 
   -- WHAT AN ANSWER SAYS
 

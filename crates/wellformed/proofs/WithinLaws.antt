@@ -157,7 +157,7 @@ shuffle true true true true false true false re = refl
 shuffle true true true true false false ba re = refl
 
 -- the tests in the order of the code
-spawned : (p : Program) (made : Made) (i : ℕ) (b : List ℕ)
+pub spawned : (p : Program) (made : Made) (i : ℕ) (b : List ℕ)
     → status_passes (byte_at b 4) (byte_at b 5)
     && (stack_passes p made.activities b
     && (holds_pass made.clocks b

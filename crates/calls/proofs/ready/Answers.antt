@@ -10,15 +10,15 @@ returns-in_err-read c =
     let t = c.args.table.now in
     let b = c.args.state.now in
     let p = err_from_is_err_and c.from_residual.result c.from_residual.ensures.1 in
-    let k = turned_down t b c.check_state.ensures c.in_err-read.was in
+    let k = turned_down t b c.check_state.ensures.value c.in_err-read.was in
     rw (p.1, p.2) (ready_refused t b k.0 k.1)
 
 pub accepted-requires : goal.accepted-requires
-accepted-requires c = read_back c.args.table.now (passed c.args.table.now c.args.state.now c.check_state.ensures c.in_ok-read.was).1
+accepted-requires c = read_back c.args.table.now (passed c.args.table.now c.args.state.now c.check_state.ensures.value c.in_ok-read.was).1
 
 pub returns : goal.returns
 returns c =
     let t = c.args.table.now in
     let b = c.args.state.now in
-    let k = passed t b c.check_state.ensures c.in_ok-read.was in
+    let k = passed t b c.check_state.ensures.value c.in_ok-read.was in
     ready_told t b k.0 (λ i. omega (arith, c.type_inv.state i)) (rw c.accepted.ensures at c.ready_set.ensures)
