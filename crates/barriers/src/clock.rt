@@ -1,7 +1,8 @@
 // CLOCK.
 ghost use Rattle.program.specs.declared.command.Command.TheVariants.{Clock};
 ghost use Rattle.std.specs.Prelude.{◌<◌};
-ghost use Rattle.moves.specs.Moves.{Turns, taken_number};
+ghost use Rattle.rules.specs.State.{taken_number};
+ghost use Rattle.moves.specs.Moves.{Turns};
 
 use fields::counts::{clocks_of, put_clocks};
 use fields::holds::{hold_at, put_hold};

@@ -5,7 +5,8 @@ ghost use Rattle.rules.specs.declared.state.Activity.{Activity};
 ghost use Rattle.rules.specs.Clocks.{pass};
 ghost use Rattle.moves.specs.Exceeding.{is_last, some_last};
 ghost use Rattle.fields.specs.Lent.{ReadsAct};
-ghost use Rattle.moves.specs.Moves.{Turns, taken_number};
+ghost use Rattle.rules.specs.State.{taken_number};
+ghost use Rattle.moves.specs.Moves.{Turns};
 ghost use Rattle.barriers.specs.Mapped.{Maps};
 
 use fields::activities::{put_status, status_at};

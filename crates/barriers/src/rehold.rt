@@ -1,7 +1,8 @@
 // RESUME and DROP.
 ghost use Rattle.program.specs.declared.command.Command.TheVariants.{Resume, Drop};
 ghost use Rattle.std.specs.Prelude.{◌<◌};
-ghost use Rattle.moves.specs.Moves.{Turns, taken_number};
+ghost use Rattle.rules.specs.State.{taken_number};
+ghost use Rattle.moves.specs.Moves.{Turns};
 ghost use Rattle.barriers.specs.Reheld.{Reholds};
 
 use fields::holds::{hold_at, put_hold};

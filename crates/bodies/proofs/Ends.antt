@@ -23,7 +23,7 @@ use Rattle.rules.specs.declared.state.Status.TheVariants.{Ended}
 use Rattle.rules.specs.declared.state.Frame.{Frame}
 use Rattle.rules.specs.declared.state.Activity.{Activity}
 use Rattle.rules.specs.declared.state.State.{State}
-use Rattle.rules.specs.State.{no_frame, act, frame, top}
+use Rattle.rules.specs.State.{no_frame, act, frame, top, taken_number}
 use Rattle.rules.specs.Tree.{here, next_offset}
 use Rattle.rules.specs.WellFormed.{is_placed}
 use Rattle.rules.specs.Faults.{fault_for, spoilt}
@@ -34,7 +34,7 @@ use Rattle.rules.proofs.WellFormedFacts.{facts}
 use Rattle.moves.specs.Exceeding.{overfull}
 use Rattle.places.proofs.Places.{next_is, next_small}
 use Rattle.fields.specs.Lent.{Lent, Reads, ReadsAct, WritesAct, with_act, with_steps, with_frame, with_depth, onward}
-use Rattle.moves.specs.Moves.{Standing, Turned, Counts, GoesOn, Fails, taken_number, unspent}
+use Rattle.moves.specs.Moves.{Standing, Turned, Counts, GoesOn, Fails, unspent}
 use Rattle.bodies.specs.Pops.{lower, Pops, rerun, Reruns, Ends}
 use Rattle.moves.proofs.Withs.{act_with, with_with, steps_with, then}
 use Rattle.moves.proofs.Standings.{left, turns_down, spawned, few, fault_at, plain, calm, steps_room, shallow, done_alone}
@@ -91,7 +91,7 @@ module _ (t : List ℕ) {b : List ℕ} {s : State} {i work d : ℕ} (k : scan t 
   unfolding effect_of overfull
   after x e m n q = done_alone w clear (plain w room refl (λ o. omega arith)) x (ap alone e) m (n ∙ sym (rw q (calm w)))
 
-  ended : {b₁ b₂ : List ℕ} {r : ℕ} → d ≤ 1 → WritesAct (λ (a : Activity). stopped a Ended) b b₁ i → Counts b₁ b₂ r → Turned (program_of t) s i b₂ r
+  pub ended : {b₁ b₂ : List ℕ} {r : ℕ} → d ≤ 1 → WritesAct (λ (a : Activity). stopped a Ended) b b₁ i → Counts b₁ b₂ r → Turned (program_of t) s i b₂ r
   unfolding effect_of overfull end_of with_act
   ended h f g =
       let x = stopped (act s i) Ended in
@@ -106,7 +106,7 @@ module _ (t : List ℕ) {b : List ℕ} {s : State} {i work d : ℕ} (k : scan t 
     upper : f ≡ top (act s i)
     upper = (read low).reads s l (few w) ∙ rw depth
 
-    reran : {b₁ : List ℕ} {r : ℕ} → 1 < f.runs → Reruns f b b₁ i (d - 1) r → Turned (program_of t) s i b₁ r
+    pub reran : {b₁ : List ℕ} {r : ℕ} → 1 < f.runs → Reruns f b b₁ i (d - 1) r → Turned (program_of t) s i b₁ r
     unfolding end_of again
     reran m g =
         let e = depth in
@@ -130,7 +130,7 @@ module _ (t : List ℕ) {b : List ℕ} {s : State} {i work d : ℕ} (k : scan t 
         rw upper
         (subst (λ (n : ℕ). Ran s.activities (here (program_of t) under).command (frame (act s i) n)) z (stack.stacked ((act s i).depth - 1 - 1) (omega arith)).by)
 
-    popped_out : {b₁ : List ℕ} {size r : ℕ} → f.runs ≤ 1 → cond (eqb f.runs 0) 2 3 ≡ size → Pops b b₁ i d size r → Turned (program_of t) s i b₁ r
+    pub popped_out : {b₁ : List ℕ} {size r : ℕ} → f.runs ≤ 1 → cond (eqb f.runs 0) 2 3 ≡ size → Pops b b₁ i d size r → Turned (program_of t) s i b₁ r
     unfolding end_of popped past with_act
     popped_out {b₁} {size} {r} once z o =
         let goes : is_end (here (program_of t) under).command ≡ false = ran_going runs_it in

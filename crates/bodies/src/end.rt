@@ -1,7 +1,7 @@
 // END.
 ghost use Rattle.std.specs.Prelude.{◌<◌};
 ghost use Rattle.bodies.specs.Pops.{Pops, Reruns, Ends};
-ghost use Rattle.moves.specs.Moves.{taken_number};
+ghost use Rattle.rules.specs.State.{taken_number};
 
 use fields::activities::{depth_at, put_depth};
 use fields::frames::{frame_at, put_frame};

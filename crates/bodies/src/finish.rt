@@ -1,6 +1,7 @@
 // FINISH.
 ghost use Rattle.program.specs.declared.command.Command.TheVariants.{Finish};
-ghost use Rattle.moves.specs.Moves.{Turns, taken_number};
+ghost use Rattle.rules.specs.State.{taken_number};
+ghost use Rattle.moves.specs.Moves.{Turns};
 
 use super::push::push;
 use fields::counts::activities_of;

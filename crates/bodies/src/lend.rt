@@ -4,7 +4,7 @@ ghost use Rattle.rules.specs.declared.state.Activity.{Activity};
 ghost use Rattle.rules.specs.Tree.{in_own_finish};
 ghost use Rattle.rules.specs.Faults.{async_fault};
 ghost use Rattle.fields.specs.Lent.{ReadsAct};
-ghost use Rattle.moves.specs.Moves.{fault_in};
+ghost use Rattle.rules.specs.State.{fault_in};
 ghost use Rattle.bodies.specs.Lends.{ReadsIn, lend_fault};
 
 use fields::activities::depth_at;

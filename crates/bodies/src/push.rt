@@ -1,6 +1,6 @@
 // A body begins on top of the stack.
 ghost use Rattle.bodies.specs.Pushes.{Pushes};
-ghost use Rattle.moves.specs.Moves.{taken_number};
+ghost use Rattle.rules.specs.State.{taken_number};
 
 use fields::activities::{depth_at, put_depth};
 use fields::frames::put_frame;

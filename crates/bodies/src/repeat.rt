@@ -1,6 +1,7 @@
 // REPEAT.
 ghost use Rattle.program.specs.declared.command.Command.TheVariants.{Repeat};
-ghost use Rattle.moves.specs.Moves.{Turns, taken_number};
+ghost use Rattle.rules.specs.State.{taken_number};
+ghost use Rattle.moves.specs.Moves.{Turns};
 
 use super::push::push;
 use moves::{Taken, go_on, unspent};

@@ -1,7 +1,8 @@
 // ASYNC.
 ghost use Rattle.program.specs.declared.command.Command.TheVariants.{Async};
 ghost use Rattle.bodies.specs.Gives.{Gives};
-ghost use Rattle.moves.specs.Moves.{Does, TurnsIn, taken_number};
+ghost use Rattle.rules.specs.State.{taken_number};
+ghost use Rattle.moves.specs.Moves.{Does, TurnsIn};
 
 use super::lend::async_fault;
 use fields::activities::{name_at, put_depth, put_name, put_register, put_spawner, register_at};

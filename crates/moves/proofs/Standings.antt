@@ -14,7 +14,7 @@ use Rattle.rules.specs.declared.state.Fault.{Fault}
 use Rattle.rules.specs.declared.state.Activity.{Activity}
 use Rattle.rules.specs.declared.state.State.{State}
 use Rattle.rules.specs.declared.answer.Stepped.{Stepped}
-use Rattle.rules.specs.State.{bound, fault_number, fault_of, act, top, is_ended, is_at_barrier, status_answer, answer_number}
+use Rattle.rules.specs.State.{bound, fault_number, fault_of, act, top, is_ended, is_at_barrier, status_answer, answer_number, taken_number}
 use Rattle.rules.specs.declared.state.Status.{Status}
 use Rattle.rules.specs.declared.state.Status.TheVariants.{Running, AtBarrier, Ended, Faulted}
 use Rattle.rules.specs.Tree.{here, next_offset}
@@ -31,7 +31,7 @@ use Rattle.moves.specs.Exceeding.{overfull, overtakes, exceeds_at}
 use Rattle.places.proofs.Places.{sound_here, next_is, next_small}
 use Rattle.moves.proofs.Exceeding.{measured, exceeds_at_lem}
 use Rattle.fields.specs.Lent.{Lent, Reads, with_act, with_steps, onward}
-use Rattle.moves.specs.Moves.{Standing, Turned, Turns, GoesOn, taken_number, unspent}
+use Rattle.moves.specs.Moves.{Standing, Turned, Turns, GoesOn, unspent}
 
 -- What the test of the steps answers.
 err_spent : (x : Bool) {r : Result ⊤ Refusal} {e : Refusal} → r ≡ cond x (Err Spent) (Ok tt) → r ≡ Err e → (true ≡ x) × (refusal_number e ≡ 17)

@@ -1,12 +1,11 @@
 -- What is known where a command is carried out in lent bytes, and what is promised of it.
-use Rattle.std.specs.Prelude.{◌≡◌, ℕ, ◌+◌, ◌*◌, ◌^◌, ◌<◌, ◌≤◌, true, false, cond, nat_le, List, Option, None, Some, Result, Ok, Err, ⊤}
+use Rattle.std.specs.Prelude.{◌≡◌, ℕ, ◌+◌, ◌*◌, ◌^◌, ◌<◌, ◌≤◌, true, false, cond, nat_le, List, Result, Ok, Err, ⊤}
 use Rattle.program.specs.Command.{is_end, width, held, names}
 use Rattle.program.specs.Bodies.{Program, program_of}
 use Rattle.program.specs.Count.{work_of}
 use Rattle.program.specs.declared.command.Command.{Command}
 use Rattle.program.specs.declared.refusal.Refusal.{Refusal}
 use Rattle.program.specs.declared.refusal.Refusal.TheVariants.{Spent}
-use Rattle.program.specs.Refusal.{refusal_number}
 use Rattle.rules.specs.declared.state.Fault.{Fault}
 use Rattle.rules.specs.declared.state.State.{State}
 use Rattle.rules.specs.State.{fault_number, act, top, bound, answer_number}
@@ -18,17 +17,6 @@ use Rattle.rules.specs.Steps.{base, at, fault, refusal, advance}
 use Rattle.fields.specs.Lent.{Lent, with_act, with_steps, onward}
 
 -- ANSWERS
-
--- The fault's number, 0 for none.
-abbrev pub fault_in : Option Fault → ℕ
-fault_in None = 0
-fault_in (Some f) = fault_number f
-
--- "The answer is 0 for a step, 100 plus f for fault f, or the number above."
-abbrev pub taken_number : Result (Option Fault) Refusal → ℕ
-taken_number (Ok None) = 0
-taken_number (Ok (Some f)) = 100 + fault_number f
-taken_number (Err r) = refusal_number r
 
 -- Number 17 where no step is left.
 abbrev pub unspent : ℕ → State → Result ⊤ Refusal

@@ -2,7 +2,8 @@
 ghost use Rattle.std.specs.Prelude.{◌<◌};
 ghost use Rattle.rules.specs.Clocks.{holds_some};
 ghost use Rattle.fields.specs.Lent.{ReadsAct};
-ghost use Rattle.moves.specs.Moves.{ReadFault, fault_in};
+ghost use Rattle.rules.specs.State.{fault_in};
+ghost use Rattle.moves.specs.Moves.{ReadFault};
 
 use fields::accumulators::accumulator_at;
 use fields::activities::name_at;

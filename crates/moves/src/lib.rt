@@ -4,7 +4,8 @@
 ghost use Rattle.rules.specs.declared.state.Activity.{Activity};
 ghost use Rattle.fields.specs.Lent.{Reads, WritesAct};
 ghost use Rattle.rules.specs.Effects.{stopped};
-ghost use Rattle.moves.specs.Moves.{Counts, GoesOn, Fails, taken_number, unspent};
+ghost use Rattle.rules.specs.State.{taken_number};
+ghost use Rattle.moves.specs.Moves.{Counts, GoesOn, Fails, unspent};
 
 use fields::activities::{clear_own, depth_at, put_depth, put_status};
 use fields::counts::{put_steps, steps_of};

@@ -1,5 +1,5 @@
 -- The parts of a state, and the paper's number for each value of an enum.
-use Rattle.std.specs.Prelude.{ℕ, ◌+◌, ◌-◌, List, [], ◌∷◌, Bool, true, false, get_or, replicate, Result, Ok, Err}
+use Rattle.std.specs.Prelude.{ℕ, ◌+◌, ◌-◌, List, [], ◌∷◌, Bool, true, false, get_or, replicate, Option, None, Some, Result, Ok, Err}
 use Rattle.program.specs.declared.refusal.Refusal.{Refusal}
 use Rattle.program.specs.Refusal.{refusal_number}
 use Rattle.rules.specs.declared.state.Fault.{Fault}
@@ -62,6 +62,17 @@ Answer = Result Status Refusal
 abbrev pub answer_number : Answer → ℕ
 answer_number (Ok status) = status_answer status
 answer_number (Err e) = refusal_number e
+
+-- The fault's number, 0 for none.
+abbrev pub fault_in : Option Fault → ℕ
+fault_in None = 0
+fault_in (Some f) = fault_number f
+
+-- The same number of an answer that tells the fault and not the standing.
+abbrev pub taken_number : Result (Option Fault) Refusal → ℕ
+taken_number (Ok None) = 0
+taken_number (Ok (Some f)) = 100 + fault_number f
+taken_number (Err r) = refusal_number r
 
 -- UNUSED ENTRIES, ALL 0
 

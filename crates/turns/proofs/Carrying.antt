@@ -17,14 +17,14 @@ use Rattle.program.proofs.ShapeRanges.{Within, within}
 use Rattle.rules.specs.declared.state.Fault.{Fault}
 use Rattle.rules.specs.declared.state.State.{State}
 use Rattle.rules.specs.declared.answer.Stepped.{Stepped}
-use Rattle.rules.specs.State.{ended, answer_number}
+use Rattle.rules.specs.State.{ended, answer_number, taken_number}
 use Rattle.rules.specs.Steps.{base, stepped, awaited, waits, refusal, advance}
 use Rattle.rules.proofs.Awaited.{awaited_zero}
 use Rattle.rules.proofs.Turn.{turn, turn_back}
 use Rattle.places.specs.declared.accepted.Accepted.{Accepted}
 use Rattle.places.specs.Known.{Known}
 use Rattle.fields.specs.Lent.{Lent}
-use Rattle.moves.specs.Moves.{Turns, TurnsIn, taken_number}
+use Rattle.moves.specs.Moves.{Turns, TurnsIn}
 use Rattle.moves.proofs.Standings.{spawned, standing}
 use Rattle.moves.proofs.Ranges.{ranged_here}
 use Rattle.waits.specs.declared.inside.Inside.{Inside}
@@ -58,7 +58,7 @@ ends {t} {i = i} k e m = record { turns = λ s l w. m.turns t k.scanned s l w (s
 
 module _ (table : Accepted) {b : List ℕ} {i v : ℕ} {c : Command} (w : Awaits table.bytes.now c b i v) {r : Reply} where
   -- Somebody is waited for.
-  kept : (v ≡ 0 → ⊥) → r.answer ≡ Err Waits → r.awaited ≡ v → CarriesIn table.bytes.now c b b i r
+  pub kept : (v ≡ 0 → ⊥) → r.answer ≡ Err Waits → r.awaited ≡ v → CarriesIn table.bytes.now c b b i r
   unfolding advance
   kept h e n = record {
     turns =
@@ -71,7 +71,7 @@ module _ (table : Accepted) {b : List ℕ} {i v : ℕ} {c : Command} (w : Awaits
 
   module _ {e : List ℕ} where
     -- Nobody is.
-    carried : v ≡ 0 → r.awaited ≡ 0 → TurnsIn table.bytes.now c b e table.work i (taken_number r.answer) → CarriesIn table.bytes.now c b e i r
+    pub carried : v ≡ 0 → r.awaited ≡ 0 → TurnsIn table.bytes.now c b e table.work i (taken_number r.answer) → CarriesIn table.bytes.now c b e i r
     carried z n m = record {
       turns =
           λ s l f j u a.

@@ -9,7 +9,7 @@ use Rattle.rules.specs.declared.state.State.{State}
 use Rattle.rules.specs.Steps.{base, advance}
 use Rattle.rules.specs.Runs.{run_from}
 use Rattle.fields.specs.Lent.{Lent}
-use Rattle.moves.specs.Moves.{taken_number}
+use Rattle.rules.specs.State.{taken_number}
 use Rattle.turns.specs.declared.Reply.{Reply}
 use Rattle.turns.specs.Turns.{TurnsAny, Followable, Follows}
 use Rattle.turns.proofs.Runs.{Under, under_start, under_stored, under_past, under_end}

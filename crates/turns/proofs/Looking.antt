@@ -18,14 +18,13 @@ use Rattle.rules.specs.declared.state.Frame.{Frame}
 use Rattle.rules.specs.declared.state.Status.{Status}
 use Rattle.rules.specs.declared.state.Activity.{Activity}
 use Rattle.rules.specs.declared.state.State.{State}
-use Rattle.rules.specs.State.{act, frame, top, ended, is_ended}
+use Rattle.rules.specs.State.{act, frame, top, ended, is_ended, taken_number}
 use Rattle.rules.specs.Tree.{here}
 use Rattle.rules.specs.WellFormed.{is_placed, well_formed}
 use Rattle.rules.specs.Steps.{at, awaited, refusal, can_step}
 use Rattle.rules.proofs.AnswerNumbers.{number_positive, refusal_range}
 use Rattle.rules.proofs.WellFormedFacts.{Facts, ActivityFacts, facts}
 use Rattle.fields.specs.Lent.{Lent, Reads, ReadsAct}
-use Rattle.moves.specs.Moves.{taken_number}
 use Rattle.waits.specs.Waits.{Awaits}
 use Rattle.turns.specs.declared.Reply.{Reply}
 use Rattle.turns.specs.Turns.{standing, Stands, Looks, CanStep, CarriesIn, TurnsAny}
@@ -71,7 +70,7 @@ module _ (t : List ℕ) {b : List ℕ} {i n : ℕ} (f : Reads (λ (x : State). x
           depth = h.reads s l (few l w)
 
           -- Who has not ended has a body.
-          some : 0 < d
+          pub some : 0 < d
           some = let e = depth in let m = (own l w).bodied unended in omega arith
 
           shallow : d - 1 < 16

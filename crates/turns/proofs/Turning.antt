@@ -9,11 +9,10 @@ use Rattle.program.specs.Bodies.{program_of}
 use Rattle.program.specs.declared.refusal.Refusal.{Refusal}
 use Rattle.program.specs.Refusal.{refusal_at}
 use Rattle.rules.specs.declared.answer.Stepped.{Stepped}
-use Rattle.rules.specs.State.{answer_number}
+use Rattle.rules.specs.State.{answer_number, taken_number}
 use Rattle.rules.specs.Steps.{base, stepped, refusal, advance}
 use Rattle.rules.proofs.AnswerNumbers.{number_positive, refused_number}
 use Rattle.fields.specs.Lent.{Lent}
-use Rattle.moves.specs.Moves.{taken_number}
 use Rattle.turns.specs.declared.Reply.{Reply}
 use Rattle.turns.specs.Turns.{Stands, TurnsAny}
 use Rattle.turns.proofs.Looking.{stays}

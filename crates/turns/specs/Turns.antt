@@ -6,13 +6,13 @@ use Rattle.program.specs.declared.command.Command.{Command}
 use Rattle.program.specs.declared.refusal.Refusal.{Refusal}
 use Rattle.program.specs.declared.refusal.Refusal.TheVariants.{Unspawned, Ended}
 use Rattle.rules.specs.declared.state.State.{State}
-use Rattle.rules.specs.State.{answer_number, ended}
+use Rattle.rules.specs.State.{answer_number, ended, taken_number}
 use Rattle.rules.specs.WellFormed.{well_formed}
 use Rattle.rules.specs.Search.{bits_below}
 use Rattle.rules.specs.Steps.{base, at, awaited, refusal, can_step}
 use Rattle.rules.specs.Runs.{run_from, answers_from, awaited_from}
 use Rattle.fields.specs.Lent.{Lent}
-use Rattle.moves.specs.Moves.{Turned, taken_number}
+use Rattle.moves.specs.Moves.{Turned}
 use Rattle.turns.specs.declared.Reply.{Reply}
 
 -- What activity i stands on where 16 is not tried yet: 14 where it was not spawned, 15 where it has ended, else its command.

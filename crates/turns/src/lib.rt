@@ -3,7 +3,7 @@
 
 ghost use Rattle.std.specs.Prelude.{◌≡◌, ◌≢◌, Ok, Err};
 ghost use Rattle.std.specs.Fn.{FnOnceReturnsAtMut};
-ghost use Rattle.moves.specs.Moves.{taken_number};
+ghost use Rattle.rules.specs.State.{taken_number};
 ghost use Rattle.program.specs.declared.refusal.Refusal.TheVariants.{Waits};
 ghost use Rattle.turns.specs.Turns.{CarriesIn, TurnsAny};
 

@@ -11,7 +11,7 @@ use Rattle.rules.specs.declared.state.Fault.{Fault}
 use Rattle.rules.specs.declared.state.Activity.{Activity}
 use Rattle.rules.specs.declared.state.Accumulator.{Accumulator}
 use Rattle.rules.specs.declared.state.State.{State}
-use Rattle.rules.specs.State.{fault_number, fault_of, act, bound, accumulator}
+use Rattle.rules.specs.State.{fault_number, fault_of, act, bound, accumulator, fault_in}
 use Rattle.rules.specs.Clocks.{holds_some}
 use Rattle.rules.specs.Faults.{Env, unbound, number_under, read_fault, fault_for}
 use Rattle.rules.specs.Effects.{with_register, with_value, past, effect_of, env_of, with_stores, applied}
@@ -19,7 +19,7 @@ use Rattle.rules.specs.Steps.{fault}
 use Rattle.rules.proofs.FaultNumbers.{fault_there, fault_range}
 use Rattle.moves.specs.Exceeding.{overfull}
 use Rattle.fields.specs.Lent.{Lent, Reads, ReadsAct, Writes, WritesAct, with_act, with_steps, with_acc}
-use Rattle.moves.specs.Moves.{Standing, Turned, GoesOn, Fails, ReadFault, fault_in}
+use Rattle.moves.specs.Moves.{Standing, Turned, GoesOn, Fails, ReadFault}
 use Rattle.values.specs.Owned.{own_number, Owns}
 use Rattle.moves.proofs.Withs.{act_with, with_with, steps_with}
 use Rattle.moves.proofs.Standings.{few, fault_here, bounds, plain, calm, went, done, done_alone}

@@ -159,15 +159,15 @@ module _ {b : List ℕ} {p : Program} {s : State} {i work : ℕ} {c : Command} (
   first_touch f = f.touches s (untouched (act s i)) (rw (touched_none s i) l) (few w)
 
 module _ {b b₁ b₂ : List ℕ} {p : Program} {s : State} {i work d r : ℕ} (l : Lent b s) where
-  fetched : Standing p s i work (Fetch d) → false ≡ leb work s.steps → Touches (Fetch d) b b₁ i → GoesOn b₁ b₂ i 2 r → Turned p s i b₂ r
+  pub fetched : Standing p s i work (Fetch d) → false ≡ leb work s.steps → Touches (Fetch d) b b₁ i → GoesOn b₁ b₂ i 2 r → Turned p s i b₂ r
   unfolding fault_for effect_of overfull is_end
   fetched w left f g = touch_done l w left _ (fault_here w refl) refl (λ q. omega arith) refl (span_is (Fetch d)) refl (first_touch l w left f) g
 
-  stored : Standing p s i work (Store d) → false ≡ leb work s.steps → Touches (Store d) b b₁ i → GoesOn b₁ b₂ i 2 r → Turned p s i b₂ r
+  pub stored : Standing p s i work (Store d) → false ≡ leb work s.steps → Touches (Store d) b b₁ i → GoesOn b₁ b₂ i 2 r → Turned p s i b₂ r
   unfolding fault_for effect_of overfull is_end
   stored w left f g = touch_done l w left _ (fault_here w refl) refl (λ q. omega arith) refl (span_is (Store d)) refl (first_touch l w left f) g
 
-  added : Standing p s i work (Add d) → false ≡ leb work s.steps → Touches (Add d) b b₁ i → GoesOn b₁ b₂ i 2 r → Turned p s i b₂ r
+  pub added : Standing p s i work (Add d) → false ≡ leb work s.steps → Touches (Add d) b b₁ i → GoesOn b₁ b₂ i 2 r → Turned p s i b₂ r
   unfolding fault_for effect_of overfull is_end
   added w left f g = touch_done l w left _ (fault_here w refl) refl (λ q. omega arith) refl (span_is (Add d)) refl (first_touch l w left f) g
 

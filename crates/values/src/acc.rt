@@ -1,7 +1,8 @@
 // ACC.
 ghost use Rattle.std.specs.Prelude.{◌<◌};
 ghost use Rattle.program.specs.declared.command.Command.TheVariants.{Acc};
-ghost use Rattle.moves.specs.Moves.{Turns, taken_number};
+ghost use Rattle.rules.specs.State.{taken_number};
+ghost use Rattle.moves.specs.Moves.{Turns};
 
 use fields::accumulators::put_accumulator;
 use fields::activities::put_name;

@@ -1,7 +1,8 @@
 // ATOM.
 ghost use Rattle.std.specs.Prelude.{◌+◌};
 ghost use Rattle.program.specs.declared.command.Command.TheVariants.{Atom};
-ghost use Rattle.moves.specs.Moves.{TurnsIn, taken_number};
+ghost use Rattle.rules.specs.State.{taken_number};
+ghost use Rattle.moves.specs.Moves.{TurnsIn};
 ghost use Rattle.values.specs.Touched.{TouchesAll, TouchesIn};
 
 use super::cells::touch;

@@ -2,7 +2,8 @@
 ghost use Rattle.std.specs.Prelude.{◌<◌};
 ghost use Rattle.std.specs.Fn.{FnOnceReturnsAtMut};
 ghost use Rattle.program.specs.declared.command.Command.TheVariants.{Fetch, Store, Add};
-ghost use Rattle.moves.specs.Moves.{Turns, taken_number};
+ghost use Rattle.rules.specs.State.{taken_number};
+ghost use Rattle.moves.specs.Moves.{Turns};
 ghost use Rattle.values.specs.Touched.{Touches, TouchesBy, TurnsOnCell};
 
 use fields::activities::{put_register, register_at};
@@ -11,7 +12,7 @@ use moves::{Taken, go_on, unspent};
 use program::command::Command;
 
 // The register becomes the cell.
-fn fetch_cell(state: &mut [u8], i: usize, d: usize)
+pub fn fetch_cell(state: &mut [u8], i: usize, d: usize)
     ensures { d < 16 → Touches (Fetch d) state.old state.new i }
 {
     let v = cell_at(state, d);
@@ -19,7 +20,7 @@ fn fetch_cell(state: &mut [u8], i: usize, d: usize)
 }
 
 // The cell becomes the register.
-fn store_cell(state: &mut [u8], i: usize, d: usize)
+pub fn store_cell(state: &mut [u8], i: usize, d: usize)
     ensures { d < 16 → Touches (Store d) state.old state.new i }
 {
     let register = register_at(state, i);
@@ -27,7 +28,7 @@ fn store_cell(state: &mut [u8], i: usize, d: usize)
 }
 
 // The cell becomes the cell plus the register modulo 2^32.
-fn add_cell(state: &mut [u8], i: usize, d: usize)
+pub fn add_cell(state: &mut [u8], i: usize, d: usize)
     ensures { d < 16 → Touches (Add d) state.old state.new i }
 {
     let v = cell_at(state, d);

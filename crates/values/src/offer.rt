@@ -1,7 +1,8 @@
 // OFFER.
 ghost use Rattle.program.specs.declared.command.Command.TheVariants.{Offer};
 ghost use Rattle.std.specs.Prelude.{◌<◌};
-ghost use Rattle.moves.specs.Moves.{Turns, taken_number};
+ghost use Rattle.rules.specs.State.{taken_number};
+ghost use Rattle.moves.specs.Moves.{Turns};
 
 use fields::accumulators::{accumulator_at, put_value};
 use fields::activities::{name_at, register_at};

@@ -1,6 +1,7 @@
 // PUT.
 ghost use Rattle.program.specs.declared.command.Command.TheVariants.{Put};
-ghost use Rattle.moves.specs.Moves.{Turns, taken_number};
+ghost use Rattle.rules.specs.State.{taken_number};
+ghost use Rattle.moves.specs.Moves.{Turns};
 
 use fields::activities::put_register;
 use moves::{Taken, go_on, unspent};

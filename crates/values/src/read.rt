@@ -1,7 +1,8 @@
 // READ.
 ghost use Rattle.std.specs.Prelude.{◌<◌};
 ghost use Rattle.program.specs.declared.command.Command.TheVariants.{Read};
-ghost use Rattle.moves.specs.Moves.{Turns, taken_number};
+ghost use Rattle.rules.specs.State.{taken_number};
+ghost use Rattle.moves.specs.Moves.{Turns};
 
 use super::own::own_number;
 use fields::accumulators::accumulator_at;

@@ -21,7 +21,7 @@ use Rattle.rules.specs.declared.state.Frame.{Frame}
 use Rattle.rules.specs.declared.state.Activity.{Activity}
 use Rattle.rules.specs.declared.state.State.{State}
 use Rattle.rules.specs.Search.{some_below, count_below}
-use Rattle.rules.specs.State.{act, frame, top, bound, is_at_barrier, ended}
+use Rattle.rules.specs.State.{act, frame, top, bound, is_at_barrier, ended, fault_in}
 use Rattle.rules.specs.Tree.{here, is_finish, finishes, in_finish_body}
 use Rattle.rules.specs.WellFormed.{is_placed, well_formed}
 use Rattle.rules.specs.Faults.{read_fault, fault_for, faulted_inside, spoilt}
@@ -38,7 +38,7 @@ use Rattle.places.proofs.Chains.{unended_below_lem}
 use Rattle.places.proofs.Roots.{placed, rooted}
 use Rattle.fields.specs.Lent.{Lent, ReadsAct}
 use Rattle.moves.proofs.Ranges.{ranged_at}
-use Rattle.moves.specs.Moves.{ReadFault, fault_in}
+use Rattle.moves.specs.Moves.{ReadFault}
 use Rattle.waits.specs.declared.inside.Inside.{Inside}
 use Rattle.waits.specs.Waits.{Clocked, Gone, Sees, Behind, EndSees, NextAwaits, OwnAwaits, Awaits}
 
@@ -214,7 +214,7 @@ module _ {t starts b : List ℕ} (k : Known t starts) {i : ℕ} {c : Command} wh
   }
 
   module _ {n r : ℕ} (g : n < 8 → OwnAwaits n b i r) where
-    awaits_read : c ≡ Read n → Awaits t c b i r
+    pub awaits_read : c ≡ Read n → Awaits t c b i r
     unfolding breach fault_for awaited_at waits_for
     awaits_read e = record {
       tells =
@@ -223,7 +223,7 @@ module _ {t starts b : List ℕ} (k : Known t starts) {i : ℕ} {c : Command} wh
           rw (awaited_live (program_of t) s i m u, a ∙ e) (own_tells g l f m (within (Read n) (subst Ranged (a ∙ e) (ranged_at s f.known f.formed m u))));
     }
 
-    awaits_reset : c ≡ Reset n → Awaits t c b i r
+    pub awaits_reset : c ≡ Reset n → Awaits t c b i r
     unfolding breach fault_for awaited_at waits_for
     awaits_reset e = record {
       tells =

@@ -4,7 +4,8 @@ use mathlib.Core.Logic.{inl, inr}
 use Rattle.std.proofs.Common.{rules}
 use Rattle.program.specs.declared.command.Command.TheVariants.{Next, Read, Reset}
 use Rattle.program.proofs.ShapeRanges.{Within}
-use Rattle.moves.specs.Moves.{Turns, taken_number}
+use Rattle.rules.specs.State.{taken_number}
+use Rattle.moves.specs.Moves.{Turns}
 use Rattle.bodies.specs.Pops.{Ends}
 use Rattle.waits.proofs.Waitings.{awaits_end, awaits_next, awaits_own}
 use Rattle.turns.proofs.Carrying.{ends, met, simply, ranging, plain, plain_simply, plain_ranging}

@@ -1,5 +1,5 @@
 -- One name after the other.
-use Rattle.moves.specs.Moves.{fault_in}
+use Rattle.rules.specs.State.{fault_in}
 use Rattle.bodies.proofs.Lending.{LendsTo}
 use Rattle.bodies.proofs.lend.lend_fault.Given as goal
 

@@ -1,6 +1,6 @@
 -- The child, or the fault.
 use mathlib.Core.Path.{ap, ◌∙◌}
-use Rattle.moves.specs.Moves.{fault_in}
+use Rattle.rules.specs.State.{fault_in}
 use Rattle.bodies.proofs.Spawns.{met}
 use Rattle.bodies.proofs.spawn.spawn.Goals as goal
 
