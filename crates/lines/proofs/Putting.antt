@@ -47,6 +47,10 @@ sets_after l i xs ys = go (leb (i + length xs) (length l)) refl
 pub kept : {a b : Text} {xs : List ℕ} → Put a xs b → length b.out.now ≡ length a.out.now
 kept {a} {b} {xs} p = ap length p.holds ∙ length-sets a.out.now a.end xs
 
+-- What ends within its buffer goes on to.
+pub within : {a b : Text} {xs : List ℕ} → Put a xs b → a.end ≤ length a.out.now → b.end ≤ length b.out.now
+within p h = omega (arith, p.place, kept p)
+
 -- A text after another is the two joined.
 pub both : {a b c : Text} {xs ys : List ℕ} → Put a xs b → Put b ys c → Put a (xs ++ ys) c
 both {a} {b} {c} {xs} {ys} p q = record {

@@ -10,7 +10,7 @@ mod counts; // counts.rt: the activities ended, and the total of a state
 mod print; // print.rt: text handed on, a page at a time
 
 use counts::put_ending;
-use lines::{Steps, Text};
+use lines::{FitText, Steps, Text};
 use print::{print_lines, send};
 use program::table::read_table;
 use std::io;
@@ -33,15 +33,15 @@ fn walk<W: Write>(
     let found = match read_table(job) {
         Ok(found) => found,
         Err(refusal) => {
-            let mut text = Text::new(out);
-            text.refused(refusal.number() as u64);
-            return send(to, &text);
+            let mut line = FitText::new(out);
+            line.refused(refusal.number() as u64);
+            return send(to, line.text());
         }
     };
     let ran = machine::trace(job, order, answers, counts);
-    let mut header = Text::new(out);
+    let mut header = FitText::new(out);
     header.header();
-    send(to, &header)?;
+    send(to, header.text())?;
     let steps = Steps {
         order,
         answers,
@@ -50,7 +50,7 @@ fn walk<W: Write>(
     print_lines(to, out, steps)?;
     let mut total = Text::new(out);
     put_ending(&mut total, found.work, &ran.state);
-    send(to, &total)
+    send(to, FitText::of(total).text())
 }
 
 // A table has at most 2,048 bytes, so one byte more is enough (proofs/Enough.antt). Of the order, 65,535 bytes count.

@@ -3,7 +3,7 @@ ghost use Rattle.std.specs.Prelude.{◌≡◌, ◌≤◌, ◌<◌, length, take,
 ghost use Rattle.std.specs.Io.KnownBytes.{Appends, Keeps};
 ghost use Rattle.lines.specs.Walk.{lines_from};
 
-use lines::{Steps, Text};
+use lines::{FitText, Steps, Text};
 use std::io;
 use std::io::Write;
 
@@ -28,9 +28,9 @@ pub fn print_lines<W: Write>(to: &mut W, out: &mut [u8], steps: Steps<'_>) -> io
 {
     let mut line: usize = 0;
     while line < steps.order.len() {
-        let mut text = Text::new(out);
-        let next = text.page(steps, line);
-        send(to, &text)?;
+        let mut page = FitText::new(out);
+        let next = page.page(steps, line);
+        send(to, page.text())?;
         line = next;
     }
     Ok(line)

@@ -21,7 +21,7 @@ loop-line-preserved g c =
       page.within c.loop-line.invariant.0,
       more_written steps.order.now steps.answers.now steps.awaited.now c.requires.order_in_bounds c.requires.order_in_bounds_2
           (g.W.Write.contents c.args.to.now) (g.W.Write.contents c.loop-line.to) (g.W.Write.contents c.send.new.to) c.loop-line.invariant.0
-          c.loop-line.invariant.1 c.new-text.ensures.empty page c.in_ok-send.ensures.written,
+          c.loop-line.invariant.1 c.new-page.ensures.empty page (rw c.text.ensures at c.in_ok-send.ensures.written),
     )
 
 pub returns-clause-printed : goal.returns-clause-printed
