@@ -56,7 +56,7 @@ impl<'a> FitText<'a> {
         self.text.refused(number);
     }
 
-    // The lines from one on, as long as there is room for any.
+    // The lines from one on, as long as there is room for any; answers how many lines there are by then.
     pub fn page(&mut self, steps: Steps<'_>, line: usize) -> usize
         ensures { Paged self.old.text steps.entry.order.now steps.entry.answers.now steps.entry.awaited.now line self.new.text result }
     {

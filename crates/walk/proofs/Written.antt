@@ -19,14 +19,14 @@ use Rattle.lines.specs.declared.put.Text.{Text}
 use Rattle.lines.specs.Put.{Put}
 use Rattle.lines.specs.Paged.{lines_between, Paged}
 use Rattle.lines.proofs.Paging.{between_join, total_length}
-use Rattle.lines.proofs.Putting.{kept}
+use Rattle.lines.proofs.Putting.{within}
 use Rattle.lines.proofs.Pages.{handed}
 
 -- What fits an empty text is what stands before its end, and is handed on whole.
 pub sent : (P : List ℕ → Type 0) {a b : Text} {xs : List ℕ} → Put a xs b → a.end ≡ 0 → length xs ≤ length a.out.now → (b.end ≤ length b.out.now → P (take b.end b.out.now)) → P xs
 sent P {a} {b} {xs} p z fits written =
     let whole : b.end ≡ a.end + length xs = omega (arith, p.place) in
-    subst P (handed p z whole) (written (omega (arith, kept p)))
+    subst P (handed p z whole) (written (within p (omega arith)))
 
 -- What holds on Ok holds of what follows from it.
 pub on_ok : {V E P Q : Type 0} (r : Result V E) → (P → Q) → OnOk r P → OnOk r Q
@@ -39,7 +39,7 @@ pub more_written : (order answers counts : List ℕ) → length order ≤ length
     → Appends p q (lines_between order answers counts 0 line) → a.end ≡ 0 → Paged a order answers counts line b next
     → (b.end ≤ length b.out.now → Appends q r (take b.end b.out.now)) → Appends p r (lines_between order answers counts 0 next)
 more_written order answers counts room space p q r {line} {next} {a} {b} h first z page last =
-    let within = page.within h in
+    let inside = page.within h in
     let fits : length (lines_between order answers counts line next) ≤ length a.out.now = omega (arith, page.put.place, page.whole) in
     let second = sent (Appends q r) page.put z fits last in
     subst (Appends p r) (sym (between_join order answers counts 0 line next (omega arith) page.onward h (omega arith) (omega arith)))
